@@ -1,0 +1,7 @@
+pub mod Questions
+pub mod View
+pub mod Shares
+pub mod Sums
+pub mod Laws
+pub mod Handlers
+pub mod Choosing
