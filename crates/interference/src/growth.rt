@@ -13,5 +13,12 @@ pub fn both_sums<R: Rule>(rule: &R, first: &Question, second: &Question) -> (u32
     ensures grows { λ r. ⌜ (Grown (query (now (first .entry))) (query (now (second .entry))) → r .0 ≤ r .1) ⌝ }
     ensures always { λ _. ⌜ GrowsTogether (R·Rule .meaning (now (rule .entry))) ⌝ }
 {
+    grow_together(rule, first, second);
     (rule.sum(first), rule.sum(second))
 }
+
+fn grow_together<R: Rule>(rule: &R, first: &Question, second: &Question)
+    ensures here { λ _. ⌜ (Grown (query (now (first .entry))) (query (now (second .entry)))
+        → R·Rule .meaning (now (rule .entry)) (query (now (first .entry))) ≤ R·Rule .meaning (now (rule .entry)) (query (now (second .entry)))) ⌝ }
+    ensures always { λ _. ⌜ GrowsTogether (R·Rule .meaning (now (rule .entry))) ⌝ }
+{}

@@ -1,4 +1,3 @@
-ghost use mathlib.Core.Path.{_≡_};
 ghost use Rattle.interference.specs.Sums.{layered};
 use crate::interrupt::Interrupt;
 use crate::question::Question;
@@ -12,14 +11,6 @@ const SUM_LIMIT: u32 = 1_000_000_000;
 pub struct Handler<R> {
     pub interrupt: Interrupt,
     pub below: R,
-}
-
-impl<R> Handler<R> {
-    pub fn over(interrupt: Interrupt, below: R) -> Handler<R>
-        ensures { λ r. ⌜ r .interrupt ≡ interrupt ⌝ ∗ ⌜ r .below ≡ below ⌝ }
-    {
-        Handler { interrupt, below }
-    }
 }
 
 pub impl<R: Rule> Rule for Handler<R> as HandlerRule {

@@ -1,7 +1,7 @@
 ghost use Prim.Native.Nat.{ℕ, _<_};
 ghost use mathlib.Core.Path.{_≡_};
 ghost use Rattle.interference.specs.Questions.{Valid, moved};
-ghost use Rattle.interference.specs.Sums.{limited-sum};
+ghost use Rattle.interference.specs.Sums.{full-sum, limited-sum, layered};
 ghost use Rattle.interference.specs.Laws.{Steady, alone};
 use crate::choice::Choice;
 use crate::choice::ChoiceRule;
@@ -22,14 +22,26 @@ pub trait SteadyRule: Rule {
 }
 
 pub impl SteadyRule for Full as FullSteady {
-    fn steadies(&self) {}
+    fn steadies(&self) {
+        full_steadies();
+    }
 }
+
+fn full_steadies()
+    ensures { λ _. ⌜ Steady full-sum ⌝ }
+{}
 
 pub impl<R: SteadyRule> SteadyRule for Handler<R> as HandlerSteady {
     fn steadies(&self) {
         self.below.steadies();
+        layer_steadies(self);
     }
 }
+
+fn layer_steadies<R: Rule>(layer: &Handler<R>)
+    requires { ⌜ Steady (R·Rule .meaning (now layer .below)) ⌝ }
+    ensures { λ _. ⌜ Steady (λ q. layered (now (layer .entry) .interrupt .cost) (now (layer .entry) .interrupt .gap) q (R·Rule .meaning (now (layer .entry) .below) q)) ⌝ }
+{}
 
 pub impl<X: SteadyRule, Y: SteadyRule> SteadyRule for Choice<X, Y> as ChoiceSteady {
     fn steadies(&self) {
@@ -45,11 +57,17 @@ pub impl<X: SteadyRule, Y: SteadyRule> SteadyRule for Choice<X, Y> as ChoiceStea
 pub fn limited_rises() -> (u32, u32)
     ensures before { λ r. ⌜ r .0 ≡ limited-sum alone ⌝ }
     ensures after { λ r. ⌜ r .1 ≡ limited-sum (moved alone 1) ⌝ }
-    ensures valid { λ _. ⌜ Valid alone × Valid (moved alone 1) ⌝ }
     ensures rises { λ r. ⌜ r .0 < r .1 ⌝ }
+    ensures valid { λ _. ⌜ Valid alone ⌝ ∗ ⌜ Valid (moved alone 1) ⌝ }
     ensures refuted { λ _. ⌜ (Steady limited-sum → ⊥) ⌝ }
 {
+    limited_is_refuted();
     let before = Question { cores: 1, window: 5, demand: 5, region: 1, upper: &[], lower: &[] };
     let after = Question { cores: 1, window: 4, demand: 4, region: 2, upper: &[], lower: &[] };
     (Limited.sum(&before), Limited.sum(&after))
 }
+
+fn limited_is_refuted()
+    ensures valid { λ _. ⌜ Valid alone ⌝ ∗ ⌜ Valid (moved alone 1) ⌝ }
+    ensures refuted { λ _. ⌜ (Steady limited-sum → ⊥) ⌝ }
+{}

@@ -1,7 +1,7 @@
 use native.Mathlib.Omega.{arith}
 use Rattle.interference.specs.Questions.{Valid, moved}
 use Rattle.interference.specs.Laws.{alone}
-use Rattle.interference.proofs.steady.limited_rises.Needs as need
+use Rattle.interference.proofs.steady.limited_is_refuted.Needs as need
 
 alone-valid : Valid alone
 alone-valid = record {
@@ -21,9 +21,6 @@ moved-valid = record {
 
 pub returns : need.returns
 returns c = record {
-  before = c .sum .ensures;
-  after = c .sum-2 .ensures;
   valid = (alone-valid, moved-valid);
-  rises = omega (arith, c .sum .ensures, c .sum-2 .ensures);
   refuted = λ steady. omega (arith, steady alone 1 alone-valid moved-valid)
 }

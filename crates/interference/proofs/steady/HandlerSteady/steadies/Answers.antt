@@ -1,8 +1,0 @@
-use native.Mathlib.Omega.{arith}
-use Rattle.interference.proofs.LayerLaws.{layered-steady}
-use Rattle.interference.proofs.steady.HandlerSteady.steadies.Needs as need
-
-pub returns : need.returns
-returns g c =
-    let s = c .args .self .now in
-    layered-steady (s .interrupt .cost) (s .interrupt .gap) (omega arith) (g .R·Rule .meaning (s .below)) (c .steadies .ensures)
