@@ -21,16 +21,16 @@ within rs h = all-from-getD RivalWithinLimits rs nobody h
 
 -- one list under two questions
 pub carries-mono : (q q′ : Query) → ((r : Rival) → RivalWithinLimits r → carry-in-share q r ≤ carry-in-share q′ r)
-  → (rs : List Rival) → RivalsWithinLimits rs → sumBy (carry-in-share q) rs ≤ sumBy (carry-in-share q′) rs
+    → (rs : List Rival) → RivalsWithinLimits rs → sumBy (carry-in-share q) rs ≤ sumBy (carry-in-share q′) rs
 carries-mono q q′ le rs v = sumBy-mono RivalWithinLimits (carry-in-share q) (carry-in-share q′) le rs (within rs v)
 
 -- one question, and a list with one rival changed
 carries-set : (q : Query) (rs : List Rival) (i : ℕ) (s : Rival) → i < length rs → carry-in-share q (rival-at rs i) ≤ carry-in-share q s
-  → sumBy (carry-in-share q) rs ≤ sumBy (carry-in-share q) (set rs i s)
+    → sumBy (carry-in-share q) rs ≤ sumBy (carry-in-share q) (set rs i s)
 carries-set q rs i s h le = omega (arith, sumBy-set (carry-in-share q) rs i s nobody h)
 
 pub finish-set : (q : Query) (rs : List Rival) (i j : ℕ) → RivalsWithinLimits rs → i < length rs → rival-at rs i .finish ≤ j
-  → sumBy (carry-in-share q) rs ≤ sumBy (carry-in-share q) (set rs i (with-finish (rival-at rs i) j))
+    → sumBy (carry-in-share q) rs ≤ sumBy (carry-in-share q) (set rs i (with-finish (rival-at rs i) j))
 finish-set q rs i j v lt h = carries-set q rs i (with-finish (rival-at rs i) j) lt (carry-finish q (rival-at rs i) j (v i lt) h)
 
 -- the rival that was changed is within the limits if all are
@@ -40,7 +40,7 @@ changed rs i s lt v =
     rw getD-set-same at (v i lt′)
 
 pub lower-cost-set : (q : Query) (i c : ℕ) → Valid q → Valid (lower-costing q i c) → i < length (q .lower) → rival-at (q .lower) i .cost ≤ c
-  → sumBy (carry-in-share q) (q .lower) ≤ sumBy (carry-in-share q) (lower-costing q i c .lower)
+    → sumBy (carry-in-share q) (q .lower) ≤ sumBy (carry-in-share q) (lower-costing q i c .lower)
 lower-cost-set q i c v w lt h =
     let r = rival-at (q .lower) i in
     carries-set q (q .lower) i (with-cost r c) lt (carry-cost q r c (v .times) (v .lowers i lt) (changed (q .lower) i (with-cost r c) lt (w .lowers)) h)
@@ -51,18 +51,22 @@ carries-bounded q rs h =
 
 full-bounded : (q : Query) → Valid q → full-sum q ≤ 2031585
 full-bounded q v =
-    omega (arith, carries-bounded q (q .upper) (v .uppers), carries-bounded q (q .lower) (v .lowers),
+    omega (
+      arith,
+      carries-bounded q (q .upper) (v .uppers),
+      carries-bounded q (q .lower) (v .lowers),
       mul-le (length (q .upper)) (share-cap q) (length (q .upper)) 65535 (omega arith) (omega arith),
-      mul-le (length (q .lower)) (share-cap q) (length (q .lower)) 65535 (omega arith) (omega arith))
+      mul-le (length (q .lower)) (share-cap q) (length (q .lower)) 65535 (omega arith) (omega arith),
+    )
 
 pub full-lawful : Lawful full-sum
 full-lawful = record {
   limited = λ q v. omega (arith, full-bounded q v);
   window-grows = λ q l v w h.
-    omega (arith, carries-mono q (with-window q l) (carry-window q l h) (q .upper) (v .uppers), carries-mono q (with-window q l) (carry-window q l h) (q .lower) (v .lowers));
+      omega (arith, carries-mono q (with-window q l) (carry-window q l h) (q .upper) (v .uppers), carries-mono q (with-window q l) (carry-window q l h) (q .lower) (v .lowers));
   upper-finish-grows = λ q i j v w lt h. omega (arith, finish-set q (q .upper) i j (v .uppers) lt h);
   lower-finish-grows = λ q i j v w lt h. omega (arith, finish-set q (q .lower) i j (v .lowers) lt h);
-  lower-cost-grows = λ q i c v w lt h. omega (arith, lower-cost-set q i c v w lt h)
+  lower-cost-grows = λ q i c v w lt h. omega (arith, lower-cost-set q i c v w lt h);
 }
 
 pub full-steady : Steady full-sum

@@ -24,7 +24,7 @@ map-cond g false d ds = refl
 
 -- a choice with x has one more than the choice without it
 kept-taken : {X : Type 0} (n : ℕ) (x : X) (ds : List (List X))
-  → kept-by (λ ys. leb (length ys) (suc n)) (map (λ ys. x ∷ ys) ds) ≡ map (λ ys. x ∷ ys) (kept-by (λ ys. leb (length ys) n) ds)
+    → kept-by (λ ys. leb (length ys) (suc n)) (map (λ ys. x ∷ ys) ds) ≡ map (λ ys. x ∷ ys) (kept-by (λ ys. leb (length ys) n) ds)
 kept-taken n x [] = refl
 kept-taken n x (d ∷ ds) =
     rw (leb·suc-suc (length d) n, kept-taken n x ds) (map-cond (λ ys. x ∷ ys) (leb (length d) n) d (kept-by (λ ys. leb (length ys) n) ds))
@@ -34,7 +34,7 @@ kept-none x [] = refl
 kept-none x (d ∷ ds) = rw (leb·suc-zero (length d)) (kept-none x ds)
 
 greatest-shift : {X : Type 0} (f : X → ℕ) (x : X) (ds : List (List X)) → 0 < length ds
-  → greatest (map (sumBy f) (map (λ ys. x ∷ ys) ds)) ≡ f x + greatest (map (sumBy f) ds)
+    → greatest (map (sumBy f) (map (λ ys. x ∷ ys) ds)) ≡ f x + greatest (map (sumBy f) ds)
 greatest-shift f x [] h = absurd (omega arith)
 greatest-shift f x (d ∷ []) h = omega (arith, sumBy-cons f x d)
 greatest-shift f x (d ∷ (e ∷ ds)) h = omega (arith, sumBy-cons f x d, greatest-shift f x (e ∷ ds) (omega arith))
@@ -48,7 +48,7 @@ greatest-top f n [] = rw (leb·zero n) (omega arith)
 greatest-top f zero (x ∷ xs) = rw (kept-by-append, kept-none x (choices xs)) (greatest-top f zero xs ∙ top-zero f xs)
 greatest-top f (suc n) (x ∷ xs) =
     rw (kept-by-append, map-append, greatest-++, kept-taken n x (choices xs), greatest-shift f x (kept-by (λ ys. leb (length ys) n) (choices xs)) (some-kept n xs))
-      (omega (arith, greatest-top f n xs, greatest-top f (suc n) xs))
+    (omega (arith, greatest-top f n xs, greatest-top f (suc n) xs))
 
 unsurpassed : {X : Type 0} (f : X → ℕ) (n : ℕ) {ys xs : List X} → Chosen ys xs → length ys ≤ n → sumBy f ys ≤ top f n xs
 unsurpassed f n nothing h = omega arith
@@ -68,8 +68,8 @@ reached f (suc n) (x ∷ xs) =
     let with-x = reached f n xs in
     let without = reached f (suc n) xs in
     elim (decLe (top f (suc n) xs) (f x + top f n xs)) [
-      yes le ↦ (x ∷ with-x .0, taken (with-x .1), omega (arith, with-x .2), omega (arith, sumBy-cons f x (with-x .0), with-x .3))
-    | no gt ↦ (without .0, left (without .1), without .2, omega (arith, without .3))
+      | yes le ↦ (x ∷ with-x .0, taken (with-x .1), omega (arith, with-x .2), omega (arith, sumBy-cons f x (with-x .0), with-x .3))
+      | no gt ↦ (without .0, left (without .1), without .2, omega (arith, without .3))
     ]
 
 pub greatest-is : {X : Type 0} (f : X → ℕ) (n : ℕ) (xs : List X) → GreatestTotal f n xs (greatest-total f n xs)
@@ -78,5 +78,5 @@ greatest-is f n xs =
     let r = reached f n xs in
     record {
       reached = (r .0, r .1, r .2, omega (arith, r .3, e));
-      unsurpassed = λ ys c h. omega (arith, unsurpassed f n c h, e)
+      unsurpassed = λ ys c h. omega (arith, unsurpassed f n c h, e);
     }

@@ -12,10 +12,10 @@ module _ (c g : ℕ) (pos : 1 ≤ g) (sum : Query → ℕ) where
   layered-lawful laws = record {
     limited = λ q v. omega arith;
     window-grows = λ q l v w h.
-      omega (arith, laws .window-grows q l v w h, capped-mono c g (q .window) l (share-cap q) (share-cap (with-window q l)) pos h (omega arith));
+        omega (arith, laws .window-grows q l v w h, capped-mono c g (q .window) l (share-cap q) (share-cap (with-window q l)) pos h (omega arith));
     upper-finish-grows = λ q i j v w lt h. omega (arith, laws .upper-finish-grows q i j v w lt h);
     lower-finish-grows = λ q i j v w lt h. omega (arith, laws .lower-finish-grows q i j v w lt h);
-    lower-cost-grows = λ q i k v w lt h. omega (arith, laws .lower-cost-grows q i k v w lt h)
+    lower-cost-grows = λ q i k v w lt h. omega (arith, laws .lower-cost-grows q i k v w lt h);
   }
 
   pub layered-steady : Steady sum → Steady (λ q. layered c g q (sum q))

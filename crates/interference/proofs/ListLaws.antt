@@ -20,7 +20,7 @@ each-all P R h (x ∷ xs) a = (h x (a .0), each-all P R h xs (a .1))
 
 -- a list compared with itself after one change
 pub each-set : {X : Type 0} (P : X → Type 0) (R : X → X → Type 0) → ((x : X) → P x → R x x) → (xs : List X) → All P xs
-  → (i : ℕ) (d v : X) → i < length xs → R (getD xs i d) v → Each R xs (set xs i v)
+    → (i : ℕ) (d v : X) → i < length xs → R (getD xs i d) v → Each R xs (set xs i v)
 each-set P R r [] a i d v h e = absurd (omega arith)
 each-set P R r (x ∷ xs) a zero d v h e = (e, each-all P R r xs (a .1))
 each-set P R r (x ∷ xs) a (suc i) d v h e = (r x (a .0), each-set P R r xs (a .1) i d v (omega arith) e)
@@ -31,7 +31,7 @@ all-split P (p ∷ pre) rest a = let r = all-split P pre rest (a .1) in ((a .0, 
 
 -- What does not fall when one element changes does not fall when several do.
 module _ {X : Type 0} (P : X → Type 0) (R : X → X → Type 0) (n : ℕ) (f : List X → ℕ)
-  (step : (pre rest : List X) (x y : X) → length (pre ++ (x ∷ rest)) ≡ n → All P (pre ++ (x ∷ rest)) → All P (pre ++ (y ∷ rest)) → R x y
+    (step : (pre rest : List X) (x y : X) → length (pre ++ (x ∷ rest)) ≡ n → All P (pre ++ (x ∷ rest)) → All P (pre ++ (y ∷ rest)) → R x y
     → f (pre ++ (x ∷ rest)) ≤ f (pre ++ (y ∷ rest))) where
   pub one-by-one : (pre xs ys : List X) → length (pre ++ xs) ≡ n → All P (pre ++ xs) → All P (pre ++ ys) → Each R xs ys → f (pre ++ xs) ≤ f (pre ++ ys)
   one-by-one pre [] [] k a b h = omega arith
@@ -44,6 +44,6 @@ module _ {X : Type 0} (P : X → Type 0) (R : X → X → Type 0) (n : ℕ) (f :
       let first = step pre xs x y k a mid (h .0) in
       let k′ : length ((pre ++ (y ∷ [])) ++ xs) ≡ n = rw append-assoc (omega (arith, length-append pre (x ∷ xs), length-append pre (y ∷ xs))) in
       let rest : f ((pre ++ (y ∷ [])) ++ xs) ≤ f ((pre ++ (y ∷ [])) ++ ys) =
-            one-by-one (pre ++ (y ∷ [])) xs ys k′ (rw append-assoc mid) (rw append-assoc b) (h .1) in
+      one-by-one (pre ++ (y ∷ [])) xs ys k′ (rw append-assoc mid) (rw append-assoc b) (h .1) in
       let rest′ : f (pre ++ (y ∷ xs)) ≤ f (pre ++ (y ∷ ys)) = simp append-assoc at rest in
       omega (arith, first, rest′)

@@ -21,13 +21,13 @@ top-zero f (x ∷ xs) = refl
 
 -- one element more at the end
 top-push : {X : Type 0} (f : X → ℕ) (n : ℕ) (xs : List X) (y : X)
-  → top f (suc n) (xs ++ (y ∷ [])) ≡ max (f y + top f n xs) (top f (suc n) xs)
+    → top f (suc n) (xs ++ (y ∷ [])) ≡ max (f y + top f n xs) (top f (suc n) xs)
 top-push f n [] y = refl
 top-push f zero (x ∷ xs) y = omega (arith, top-push f zero xs y, top-zero f (xs ++ (y ∷ [])), top-zero f xs)
 top-push f (suc n) (x ∷ xs) y = omega (arith, top-push f n xs y, top-push f (suc n) xs y)
 
 pub top-more : {X : Type 0} (f : X → ℕ) (n : ℕ) (xs : List X) (i : ℕ) (d : X) → i < length xs
-  → top f (suc n) (take (i + 1) xs) ≡ max (f (getD xs i d) + top f n (take i xs)) (top f (suc n) (take i xs))
+    → top f (suc n) (take (i + 1) xs) ≡ max (f (getD xs i d) + top f n (take i xs)) (top f (suc n) (take i xs))
 top-more f n xs i d h = ap (top f (suc n)) (take-more xs i d h) ∙ top-push f n (take i xs) (getD xs i d)
 
 pub top-le : {X : Type 0} (f : X → ℕ) (m : ℕ) → ((x : X) → f x ≤ m) → (n : ℕ) (xs : List X) → top f n xs ≤ m * length xs
@@ -43,14 +43,14 @@ mixed p c zero (x ∷ xs) = p x + mixed p c zero xs
 mixed p c (suc n) (x ∷ xs) = max (c x + mixed p c n xs) (p x + mixed p c (suc n) xs)
 
 pub mixed-top : {X : Type 0} (P : X → Type 0) (p c : X → ℕ) → ((x : X) → P x → p x ≤ c x)
-  → (n : ℕ) (xs : List X) → All P xs → sumBy p xs + top (λ x. c x - p x) n xs ≡ mixed p c n xs
+    → (n : ℕ) (xs : List X) → All P xs → sumBy p xs + top (λ x. c x - p x) n xs ≡ mixed p c n xs
 mixed-top P p c le n [] h = omega arith
 mixed-top P p c le zero (x ∷ xs) h = omega (arith, sumBy-cons p x xs, mixed-top P p c le zero xs (h .1), top-zero (λ y. c y - p y) xs)
 mixed-top P p c le (suc n) (x ∷ xs) h =
     omega (arith, sumBy-cons p x xs, le x (h .0), mixed-top P p c le n xs (h .1), mixed-top P p c le (suc n) xs (h .1))
 
 pub mixed-each : {X : Type 0} (p p′ c c′ : X → ℕ) (n : ℕ) (xs ys : List X) → Each (λ x y. (p x ≤ p′ y) × (c x ≤ c′ y)) xs ys
-  → mixed p c n xs ≤ mixed p′ c′ n ys
+    → mixed p c n xs ≤ mixed p′ c′ n ys
 mixed-each p p′ c c′ n [] [] h = omega arith
 mixed-each p p′ c c′ n [] (y ∷ ys) h = absurd h
 mixed-each p p′ c c′ n (x ∷ xs) [] h = absurd h

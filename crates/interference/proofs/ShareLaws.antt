@@ -20,7 +20,7 @@ carry-finish q r j v h =
     capped-mono (r .cost) (r .period) (q .window + r .finish - r .cost) (q .window + j - r .cost) (share-cap q) (share-cap q) (v .4) (omega arith) (omega arith)
 
 pub carry-cost : (q : Query) (r : Rival) (c : ℕ) → TimesWithinLimits q → RivalWithinLimits r → RivalWithinLimits (with-cost r c) → r .cost ≤ c
-  → carry-in-share q r ≤ carry-in-share q (with-cost r c)
+    → carry-in-share q r ≤ carry-in-share q (with-cost r c)
 carry-cost q r c t v w h =
     omega (arith, workload-costlier (r .cost) c (r .period) (q .window + r .finish - r .cost) (q .window + r .finish - c) h (w .2) (w .4) (omega arith))
 

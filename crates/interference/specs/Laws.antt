@@ -15,12 +15,12 @@ pub record Lawful (sum : Query → ℕ) : Type 0 where
   pub window-grows : (q : Query) (l : ℕ) → Valid q → Valid (with-window q l) → q .window ≤ l → sum q ≤ sum (with-window q l)
   -- 2. nor when a rival, of either list, may finish later
   pub upper-finish-grows : (q : Query) (i j : ℕ) → Valid q → Valid (upper-finishing q i j) → i < length (q .upper)
-    → rival-at (q .upper) i .finish ≤ j → sum q ≤ sum (upper-finishing q i j)
+      → rival-at (q .upper) i .finish ≤ j → sum q ≤ sum (upper-finishing q i j)
   pub lower-finish-grows : (q : Query) (i j : ℕ) → Valid q → Valid (lower-finishing q i j) → i < length (q .lower)
-    → rival-at (q .lower) i .finish ≤ j → sum q ≤ sum (lower-finishing q i j)
+      → rival-at (q .lower) i .finish ≤ j → sum q ≤ sum (lower-finishing q i j)
   -- 3. nor when a lower rival costs more
   pub lower-cost-grows : (q : Query) (i c : ℕ) → Valid q → Valid (lower-costing q i c) → i < length (q .lower)
-    → rival-at (q .lower) i .cost ≤ c → sum q ≤ sum (lower-costing q i c)
+      → rival-at (q .lower) i .cost ≤ c → sum q ≤ sum (lower-costing q i c)
 
 -- A steady rule: the sum does not rise when ticks are moved from the end of the demand into the region.
 abbrev pub Steady : (Query → ℕ) → Type 0

@@ -62,8 +62,22 @@ pub fn limited_rises() -> (u32, u32)
     ensures refuted { λ _. ⌜ (Steady limited-sum → ⊥) ⌝ }
 {
     limited_is_refuted();
-    let before = Question { cores: 1, window: 5, demand: 5, region: 1, upper: &[], lower: &[] };
-    let after = Question { cores: 1, window: 4, demand: 4, region: 2, upper: &[], lower: &[] };
+    let before = Question {
+        cores: 1,
+        window: 5,
+        demand: 5,
+        region: 1,
+        upper: &[],
+        lower: &[],
+    };
+    let after = Question {
+        cores: 1,
+        window: 4,
+        demand: 4,
+        region: 2,
+        upper: &[],
+        lower: &[],
+    };
     (Limited.sum(&before), Limited.sum(&after))
 }
 

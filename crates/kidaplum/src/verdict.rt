@@ -18,7 +18,11 @@ fn rivals(heap: Global, tasks: &[Task], higher: bool) -> Result<Vec<Rival>, Allo
     let mut made = Vec::new(heap);
     for t in tasks {
         let cost = if higher { t.cost } else { 0 };
-        made.push(Rival { cost, period: t.period, finish: t.deadline })?;
+        made.push(Rival {
+            cost,
+            period: t.period,
+            finish: t.deadline,
+        })?;
     }
     Ok(made)
 }
@@ -30,17 +34,46 @@ pub fn report(rt: &LibcRuntime, k: usize) -> io::Result<()> {
     let upper = rivals(rt.alloc(), &TASKS[0..k], true)?;
     let lower = rivals(rt.alloc(), &TASKS[k + 1..], false)?;
     println!(rt, "")?;
-    println!(rt, "Task {}: cost {}, deadline {}, period {}", k + 1, t.cost, t.deadline, t.period)?;
+    println!(
+        rt,
+        "Task {}: cost {}, deadline {}, period {}",
+        k + 1,
+        t.cost,
+        t.deadline,
+        t.period
+    )?;
     judge(rt, "full", &Full, t, upper.as_slice(), lower.as_slice())?;
-    judge(rt, "limited", &Limited, t, upper.as_slice(), lower.as_slice())
+    judge(
+        rt,
+        "limited",
+        &Limited,
+        t,
+        upper.as_slice(),
+        lower.as_slice(),
+    )
 }
 
-fn judge<R: Rule>(rt: &LibcRuntime, name: &str, rule: &R, t: &Task, upper: &[Rival], lower: &[Rival]) -> io::Result<()> {
+fn judge<R: Rule>(
+    rt: &LibcRuntime,
+    name: &str,
+    rule: &R,
+    t: &Task,
+    upper: &[Rival],
+    lower: &[Rival],
+) -> io::Result<()> {
     match ask(rule, CORES, t.deadline, t.cost, 1, upper, lower) {
         Some(sum) => {
             let each = sum / CORES;
-            let verdict = if each <= t.deadline - t.cost { "passes" } else { "fails" };
-            println!(rt, "  {name} rule: rivals take {sum}, {each} for each core; {} + {each} against {}: {verdict}", t.cost, t.deadline)
+            let verdict = if each <= t.deadline - t.cost {
+                "passes"
+            } else {
+                "fails"
+            };
+            println!(
+                rt,
+                "  {name} rule: rivals take {sum}, {each} for each core; {} + {each} against {}: {verdict}",
+                t.cost, t.deadline
+            )
         }
         None => println!(rt, "  {name} rule: not a question within the limits"),
     }

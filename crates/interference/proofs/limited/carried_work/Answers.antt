@@ -25,7 +25,7 @@ sub-more c =
 pub with-choice-best-requires : need.with-choice-best-requires
 with-choice-best-requires c κs = record {
   low = omega (arith, c .carry-in .ensures);
-  small = λ k h. omega (arith, c .loop-r .inv k h, small (query (c .args .q .now)) (c .args .q .now .times) (c .args .q .now .upper .now) k (c .loop-r .r-index) (omega (arith, c .args .q .now .sizes)))
+  small = λ k h. omega (arith, c .loop-r .inv k h, small (query (c .args .q .now)) (c .args .q .now .times) (c .args .q .now .upper .now) k (c .loop-r .r-index) (omega (arith, c .args .q .now .sizes)));
 }
 
 pub loop-r-again : need.loop-r-again
@@ -45,9 +45,9 @@ returns c =
     let rs = q .upper in
     let i = c .loop-r .inv n (omega (arith, c .args .q .now .sizes)) in
     let is : getD (c .loop-r .best) n 0 ≡ greatest-total (carried q) n rs =
-          i ∙ ap (top (carried q) n) (take-all _ _ (c .loop-r-test .left)) ∙ sym (greatest-top (carried q) n rs) in
+    i ∙ ap (top (carried q) n) (take-all _ _ (c .loop-r-test .left)) ∙ sym (greatest-top (carried q) n rs) in
     record {
       greatest = subst (λ (s : ℕ). GreatestTotal (carried q) n rs s) (sym is) (greatest-is (carried q) n rs);
       total = is;
-      fits = omega (arith, i, small q (c .args .q .now .times) rs n (c .loop-r .r-index) (omega (arith, c .args .q .now .sizes)))
+      fits = omega (arith, i, small q (c .args .q .now .times) rs n (c .loop-r .r-index) (omega (arith, c .args .q .now .sizes)));
     }

@@ -16,5 +16,5 @@ loop-r-again c =
 pub returns : need.returns
 returns c = record {
   total = c .loop-r .inv .1 ∙ ap (sumBy (carry-in-share (query (c .args .q .now)))) (take-all _ _ (c .loop-r-test .left));
-  fits = omega arith
+  fits = omega arith;
 }
