@@ -1,0 +1,12 @@
+pub mod Picked
+pub mod Among
+pub mod Greedy
+pub mod RivalLaws
+pub mod Rank
+pub mod Search
+pub mod Levels
+pub mod Fixpoint
+pub mod BoundLaws
+pub mod Steadiness
+pub mod ByTask
+pub mod Padding

@@ -1,0 +1,5 @@
+pub mod Rivals
+pub mod Passing
+pub mod Plans
+pub mod Bounds
+pub mod Steps

@@ -1,0 +1,78 @@
+ghost use Prim.Native.Nat.{ℕ, _≤_, _<_};
+ghost use mathlib.Core.Path.{_≡_};
+ghost use lib.ListN.{length, getD};
+ghost use Rattle.std.specs.Options.{Cases};
+ghost use Rattle.analysis.specs.Rivals.{finish-limits, cost-of};
+ghost use Rattle.analysis.specs.Passing.{PassesOver};
+ghost use Rattle.analysis.specs.Plans.{IsChoice, LeastLengths, NoLengths};
+ghost use Rattle.analysis.specs.Steps.{FirstTo, LeastByPlace, InfeasibleByPlace, Padded};
+use crate::finder::Finder;
+use crate::finder::Halving;
+use crate::finder::HalvingFinder;
+use crate::finder::Trying;
+use crate::finder::TryingFinder;
+use crate::place::Place;
+use crate::rivals::NOBODY;
+use crate::rivals::fill_limits;
+use crate::rivals::fill_lower;
+use crate::rivals::fill_upper;
+use crate::task_set::Ordered;
+use crate::task_set::TaskSet;
+use interference::rule::Rule;
+use interference::steady::SteadyRule;
+
+// The least lengths with which all tasks pass in this order, by task number, and 1 past the last task. None where no
+// choice of lengths passes.
+pub fn seek_lengths<R: Rule>(rule: &R, tasks: &Ordered) -> Option<[u32; 32]>
+    ensures { λ r. ⌜ Cases r (NoLengths (R·Rule .meaning (now (rule .entry))) (now (tasks .entry) .set .cores) (now (now (tasks .entry) .set .tasks)) (now (now (tasks .entry) .order)))
+        (λ lens. LeastLengths (R·Rule .meaning (now (rule .entry))) (now (tasks .entry) .set .cores) (now (now (tasks .entry) .set .tasks)) (now (now (tasks .entry) .order)) lens
+            × Padded (length (now (now (tasks .entry) .set .tasks))) 1 lens) ⌝ }
+{
+    lengths_by(&Trying, rule, tasks)
+}
+
+// The same under a steady rule, with fewer questions.
+pub fn quick_lengths<R: SteadyRule>(rule: &R, tasks: &Ordered) -> Option<[u32; 32]>
+    ensures { λ r. ⌜ Cases r (NoLengths (R·Rule .meaning (now (rule .entry))) (now (tasks .entry) .set .cores) (now (now (tasks .entry) .set .tasks)) (now (now (tasks .entry) .order)))
+        (λ lens. LeastLengths (R·Rule .meaning (now (rule .entry))) (now (tasks .entry) .set .cores) (now (now (tasks .entry) .set .tasks)) (now (now (tasks .entry) .order)) lens
+            × Padded (length (now (now (tasks .entry) .set .tasks))) 1 lens) ⌝ }
+{
+    lengths_by(&Halving, rule, tasks)
+}
+
+// The first length with which task k passes above those of the list, with their lengths, and below all others.
+pub fn length_by<R: Rule, F: Finder<R>>(finder: &F, rule: &R, set: &TaskSet, late: &[u32], lens: &[u32], low: &[usize], k: usize) -> Option<u32>
+    requires late { ⌜ now late ≡ finish-limits (now (now set .tasks)) ⌝ }
+    requires room { ⌜ length (now (now set .tasks)) ≤ length (now lens) ⌝ }
+    requires choice { ⌜ IsChoice (cost-of (now (now set .tasks))) (length (now (now set .tasks))) (now lens) ⌝ }
+    requires here { ⌜ k < length (now (now set .tasks)) ⌝ }
+    ensures { λ r. ⌜ FirstTo (PassesOver (R·Rule .meaning (now (rule .entry))) (now (set .entry) .cores) (now (now (set .entry) .tasks)) (now (low .entry)) k (now (lens .entry))) (cost-of (now (now (set .entry) .tasks)) k) r ⌝ }
+{
+    let mut upper = [NOBODY; 32];
+    let used = fill_upper(set.tasks, late, low, k, &mut upper);
+    let mut lower = [NOBODY; 32];
+    let taken = fill_lower(set.tasks, late, lens, low, k, &mut lower);
+    let place = Place { cores: set.cores, task: set.tasks[k], upper: &upper[0..used], lower: &lower[0..taken] };
+    finder.first(rule, &place)
+}
+
+fn lengths_by<R: Rule, F: Finder<R>>(finder: &F, rule: &R, tasks: &Ordered) -> Option<[u32; 32]>
+    ensures { λ r. ⌜ Cases r (NoLengths (R·Rule .meaning (now (rule .entry))) (now (tasks .entry) .set .cores) (now (now (tasks .entry) .set .tasks)) (now (now (tasks .entry) .order)))
+        (λ lens. LeastLengths (R·Rule .meaning (now (rule .entry))) (now (tasks .entry) .set .cores) (now (now (tasks .entry) .set .tasks)) (now (now (tasks .entry) .order)) lens
+            × Padded (length (now (now (tasks .entry) .set .tasks))) 1 lens) ⌝ }
+{
+    let set = tasks.set;
+    let order = tasks.order;
+    let mut limits = [0; 32];
+    fill_limits(set.tasks, &mut limits);
+    let mut lens = [1; 32];
+    'places: for p in 0..order.len() {
+        let k = order[p];
+        if let Some(f) = length_by(finder, rule, &set, &limits[0..set.tasks.len()], &lens, &order[0..p], k) {
+            lens[k] = f;
+        } else {
+            return None;
+        }
+    }
+    Some(lens)
+}

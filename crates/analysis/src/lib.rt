@@ -1,0 +1,8 @@
+// Tasks in an order under a rule, on plain data: who passes, and the searches for lengths, a plan and bounds.
+pub mod task;
+pub mod task_set;
+mod place;
+mod rivals;
+mod passing;
+mod finder;
+pub mod lengths;
