@@ -111,10 +111,6 @@ module _ (low high : ℕ) (h : ℕ → ℕ) (grows : (v w : ℕ) → low ≤ v �
   pub kept-none : high < h b → (v : ℕ) → low ≤ v → v ≤ high → h v ≤ v → ⊥
   kept-none over v a c d = let s = grows b v from (lowest v a c d) c in omega arith
 
-pub total-most : (f : ℕ → ℕ) (m n : ℕ) → ((k : ℕ) → k < n → f k ≤ 65535) → total f n ≤ 65535 * n
-total-most f m zero h = omega arith
-total-most f m (suc n) h = let r = total-most f m n (λ k l. h k (omega arith)) in let s = h n (omega arith) in omega arith
-
 -- one place of a sweep, from the highest down
 module _ (T : List ℕ → ℕ) (Solved : List ℕ → ℕ → Type 0) (top : ℕ) (first old new : List ℕ) (p : ℕ) (some : 0 < p) (so-far : T first ≤ T old) where
   pub sweep-more : (changed raised : Bool) → When changed (T first < T old) ((old ≡ first) × ((i : ℕ) → p ≤ i → i < top → Solved old i)) → When raised (T old < T new) ((new ≡ old) × Solved new (p - 1))
@@ -130,9 +126,9 @@ module _ (T : List ℕ → ℕ) (Solved : List ℕ → ℕ → Type 0) (top : �
         (λ x. subst (λ l. Solved l i) (sym (r .0)) (h .1 i (⊎-elim (λ y. omega arith) (λ y. absurd (omega arith)) x) b))
         (cases-order (p - 1) i)))
 
-pub sweep-all : (changed : Bool) (A E L : Type 0) (P : ℕ → Type 0) (top p : ℕ) → p ≡ 0 → When changed A (E × ((i : ℕ) → p ≤ i → i < top → P i)) → (((i : ℕ) → i < top → P i) → L) → When changed A (E × L)
+pub sweep-all : (changed : Bool) (A E L : Type 0) (P : ℕ → Type 0) (top p : ℕ) → p ≡ 0 → When changed A (E × ((i : ℕ) → p ≤ i → i < top → P i)) → (((i : ℕ) → i < top → P i) → L) → When changed A L
 sweep-all true A E L P top p e h f = h
-sweep-all false A E L P top p e h f = (h .0, f (λ i l. h .1 i (omega arith) l))
+sweep-all false A E L P top p e h f = f (λ i l. h .1 i (omega arith) l)
 
 pub when-yes : (b : Bool) (A B : Type 0) → b ≡ true → When b A B → A
 when-yes true A B e h = h

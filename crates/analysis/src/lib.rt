@@ -6,3 +6,5 @@ mod rivals;
 mod passing;
 mod finder;
 pub mod lengths;
+pub mod plan;
+pub mod bounds;

@@ -33,3 +33,10 @@ pub struct Arranged<'a> {
     ghost room: { length (ordered .set .tasks .now) ≤ length (lengths .now) },
     ghost choice: { IsChoice (cost-of (ordered .set .tasks .now)) (length (ordered .set .tasks .now)) (lengths .now) },
 }
+
+// At most eight tasks: few enough to search all orders of them.
+#[derive(Clone, Copy)]
+pub struct SmallSet<'a> {
+    pub set: TaskSet<'a>,
+    ghost small: { length (set .tasks .now) ≤ 8 },
+}
