@@ -1,6 +1,7 @@
 // Tasks in an order under a rule, on plain data: who passes, and the searches for lengths, a plan and bounds.
 pub mod task;
 pub mod task_set;
+pub mod checks;
 mod place;
 mod rivals;
 mod passing;
