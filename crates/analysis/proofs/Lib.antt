@@ -10,3 +10,4 @@ pub mod BoundLaws
 pub mod Steadiness
 pub mod ByTask
 pub mod Padding
+pub mod Stood

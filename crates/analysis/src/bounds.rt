@@ -9,9 +9,8 @@ ghost use Rattle.analysis.specs.Steps.{FirstKept, Rising, Overrun, total, Padd
 use crate::passing::next;
 use crate::place::Place;
 use crate::rivals::NOBODY;
-use crate::rivals::fill_lower;
-use crate::rivals::fill_upper;
 use crate::rivals::limit;
+use crate::standing::stand;
 use crate::task::Task;
 use crate::task_set::Arranged;
 use interference::rule::Rule;
@@ -104,14 +103,10 @@ fn place_bound<R: Rule>(rule: &R, tasks: &Arranged, bounds: &[u32], low: &[usize
     ensures { λ r. ⌜ FirstKept (next-bound (R·Rule .meaning (now (rule .entry))) (now (tasks .entry) .ordered .set .cores) (cost-of (now (now (tasks .entry) .ordered .set .tasks)) k) (getD (now (now (tasks .entry) .lengths)) k 0) (uppers (now (now (tasks .entry) .ordered .set .tasks)) (now (bounds .entry)) (now (low .entry)) k) (lowers (now (now (tasks .entry) .ordered .set .tasks)) (now (bounds .entry)) (now (now (tasks .entry) .lengths)) (now (low .entry)) k))
         (cost-of (now (now (tasks .entry) .ordered .set .tasks)) k) (limit-of (now (now (tasks .entry) .ordered .set .tasks)) k) r ⌝ }
 {
-    let set = tasks.ordered.set;
-    let lens = tasks.lengths;
     let mut upper = [NOBODY; 32];
-    let used = fill_upper(set.tasks, bounds, low, k, &mut upper);
     let mut lower = [NOBODY; 32];
-    let taken = fill_lower(set.tasks, bounds, lens, low, k, &mut lower);
-    let place = Place { cores: set.cores, task: set.tasks[k], upper: &upper[0..used], lower: &lower[0..taken] };
-    own_bound(rule, &place, lens[k], bounds[k])
+    let place = stand(&tasks.ordered.set, bounds, tasks.lengths, low, k, &mut upper, &mut lower);
+    own_bound(rule, &place, tasks.lengths[k], bounds[k])
 }
 
 // The least solution of the task's own equation, from a bound that is no greater and that the equation does not lower.

@@ -11,11 +11,9 @@ use crate::finder::Halving;
 use crate::finder::HalvingFinder;
 use crate::finder::Trying;
 use crate::finder::TryingFinder;
-use crate::place::Place;
 use crate::rivals::NOBODY;
 use crate::rivals::fill_limits;
-use crate::rivals::fill_lower;
-use crate::rivals::fill_upper;
+use crate::standing::stand;
 use crate::task_set::Ordered;
 use crate::task_set::TaskSet;
 use interference::rule::Rule;
@@ -49,10 +47,8 @@ pub fn length_by<R: Rule, F: Finder<R>>(finder: &F, rule: &R, set: &TaskSet, lat
     ensures { λ r. ⌜ FirstTo (PassesOver (R·Rule .meaning (now (rule .entry))) (now (set .entry) .cores) (now (now (set .entry) .tasks)) (now (low .entry)) k (now (lens .entry))) (cost-of (now (now (set .entry) .tasks)) k) r ⌝ }
 {
     let mut upper = [NOBODY; 32];
-    let used = fill_upper(set.tasks, late, low, k, &mut upper);
     let mut lower = [NOBODY; 32];
-    let taken = fill_lower(set.tasks, late, lens, low, k, &mut lower);
-    let place = Place { cores: set.cores, task: set.tasks[k], upper: &upper[0..used], lower: &lower[0..taken] };
+    let place = stand(set, late, lens, low, k, &mut upper, &mut lower);
     finder.first(rule, &place)
 }
 
