@@ -11,3 +11,4 @@ pub mod Steadiness
 pub mod ByTask
 pub mod Padding
 pub mod Stood
+pub mod Written

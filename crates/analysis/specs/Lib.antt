@@ -3,3 +3,4 @@ pub mod Passing
 pub mod Plans
 pub mod Bounds
 pub mod Steps
+pub mod FourTests

@@ -11,3 +11,4 @@ pub mod lengths;
 pub mod plan;
 pub mod bounds;
 pub mod verdict;
+pub mod four_tests;

@@ -1,0 +1,16 @@
+use Prim.Native.Nat.{_≤_}
+use lib.ListN.{length}
+use Rattle.interference.specs.Sums.{full-sum}
+use Rattle.analysis.specs.Bounds.{Solution}
+use Rattle.analysis.specs.FourTests.{ResponseTimeAnalysis}
+use Rattle.analysis.proofs.Written.{response-written, when-same}
+use Rattle.analysis.proofs.four_tests.as_response_time_analysis.Needs as need
+
+pub returns : need.returns
+returns c =
+    let a = c .args in
+    let o = a .tasks .now .ordered in
+    record {
+      decides = when-same (length (o .set .tasks .now) ≤ length (a .bounds .now)) (Solution full-sum (o .set .cores) (o .set .tasks .now) (o .order .now) (a .tasks .now .lengths .now) (a .bounds .now)) (ResponseTimeAnalysis (o .set .cores) (o .set .tasks .now) (o .order .now) (a .tasks .now .lengths .now) (a .bounds .now)) (a .solves) (response-written (o .set .cores) (o .set .tasks .now) (o .order .now) (a .tasks .now .lengths .now) (a .bounds .now)) (c .pre);
+      general = response-written;
+    }
