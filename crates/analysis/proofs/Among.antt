@@ -28,8 +28,8 @@ among-place (y ∷ ys) j e =
     ⊎-elim
     (λ t. (0, omega arith, eqb-true y j t))
     (λ f.
-      let r = among-place ys j (sym (cond-false (eqb y j) true (among ys j) f) ∙ e) in
-      (suc (r .0), omega (arith, r .1), r .2))
+    let r = among-place ys j (sym (cond-false (eqb y j) true (among ys j) f) ∙ e) in
+    (suc (r .0), omega (arith, r .1), r .2))
     (cases-bool (eqb y j))
 
 pub under-at : (q : List ℕ) (p : ℕ) → p < length q → among (take p q) (getD q p 0) ≡ false → under q (getD q p 0) ≡ take p q
@@ -52,19 +52,28 @@ module _ (a b : ℕ → Bool) (x : ℕ) (same : (j : ℕ) → (j ≡ x → ⊥) 
   one-more (suc n) l =
       ⊎-elim
       (λ e.
-        let bn : b n ≡ true = subst (λ j. b j ≡ true) e now in
-        let an : a n ≡ false = subst (λ j. a j ≡ false) e new in
-        let s = same-before n (omega arith) in
-        omega (arith,
-          ap (λ l. length (picked b (λ j. j) n ++ l)) (cond-true (b n) (n ∷ []) [] bn), length-push (picked b (λ j. j) n) n,
-          ap (λ l. length (picked a (λ j. j) n ++ l)) (cond-false (a n) (n ∷ []) [] an), ap length (append-nil (picked a (λ j. j) n)),
-          ap length s))
+      let bn : b n ≡ true = subst (λ j. b j ≡ true) e now in
+      let an : a n ≡ false = subst (λ j. a j ≡ false) e new in
+      let s = same-before n (omega arith) in
+      omega (
+        arith,
+        ap (λ l. length (picked b (λ j. j) n ++ l)) (cond-true (b n) (n ∷ []) [] bn),
+        length-push (picked b (λ j. j) n) n,
+        ap (λ l. length (picked a (λ j. j) n ++ l)) (cond-false (a n) (n ∷ []) [] an),
+        ap length (append-nil (picked a (λ j. j) n)),
+        ap length s,
+      ))
       (λ o.
-        let lt : x < n = ⊎-elim (λ z. z) (λ z. absurd (omega arith)) o in
-        let r = one-more n lt in
-        let s : b n ≡ a n = same n (λ e. omega arith) in
-        omega (arith, r, ap (λ t. length (picked b (λ j. j) n ++ cond t (n ∷ []) [])) s,
-          length-append (picked b (λ j. j) n) (cond (a n) (n ∷ []) []), length-append (picked a (λ j. j) n) (cond (a n) (n ∷ []) [])))
+      let lt : x < n = ⊎-elim (λ z. z) (λ z. absurd (omega arith)) o in
+      let r = one-more n lt in
+      let s : b n ≡ a n = same n (λ e. omega arith) in
+      omega (
+        arith,
+        r,
+        ap (λ t. length (picked b (λ j. j) n ++ cond t (n ∷ []) [])) s,
+        length-append (picked b (λ j. j) n) (cond (a n) (n ∷ []) []),
+        length-append (picked a (λ j. j) n) (cond (a n) (n ∷ []) []),
+      ))
       (cases-order x n)
 
 among-push : (low : List ℕ) (x j : ℕ) → (j ≡ x → ⊥) → among (low ++ x ∷ []) j ≡ among low j
@@ -95,8 +104,8 @@ everyone n q order k l =
     ⊎-elim
     (λ t. among-place q k t)
     (λ f.
-      let c = count-named n q (order .1) (length q) (omega arith) in
-      let e = take-all (length q) q (omega arith) in
-      let few = picked-fewer (among q) (λ _. false) (λ j. j) (λ j. j) (λ j a b. false≢true b) k f refl n l in
-      absurd (omega (arith, ap (λ l. length (picked (among l) (λ j. j) n)) e, order .0)))
+    let c = count-named n q (order .1) (length q) (omega arith) in
+    let e = take-all (length q) q (omega arith) in
+    let few = picked-fewer (among q) (λ _. false) (λ j. j) (λ j. j) (λ j a b. false≢true b) k f refl n l in
+    absurd (omega (arith, ap (λ l. length (picked (among l) (λ j. j) n)) e, order .0)))
     (cases-bool (among q k))

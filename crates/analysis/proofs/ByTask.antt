@@ -31,8 +31,8 @@ module _ (size : ℕ → ℕ) (n : ℕ) (ok : Test) (q : List ℕ) (order : IsOr
     choice = h .choice;
     pass = pass-all lens (h .pass);
     least = λ o c p k l.
-      let e = everyone n q order k l in
-      subst (λ j. getD lens j 0 ≤ getD o j 0) (e .2) (h .least o c (all-pass o p) (e .0) (e .1));
+        let e = everyone n q order k l in
+        subst (λ j. getD lens j 0 ≤ getD o j 0) (e .2) (h .least o c (all-pass o p) (e .0) (e .1));
   }
 
 pub first-all : (size : ℕ → ℕ) (n : ℕ) (ok : Test) (q lens : List ℕ) → FirstByPlace size n ok q lens → FirstOrder size n ok q lens
@@ -47,7 +47,7 @@ cases-map None P P′ Q Q′ f g h = f h
 cases-map (Some x) P P′ Q Q′ f g h = g x h
 
 pub answers-all : (size : ℕ → ℕ) (n : ℕ) (ok : Test) (q : List ℕ) → IsOrder n q → (r : Option (List ℕ)) → Cases r (InfeasibleByPlace size n ok q) (λ lens. LeastByPlace size n ok q lens)
-  → Cases r (NoChoicePasses size n ok q) (λ lens. LeastChoice size n ok q lens)
+    → Cases r (NoChoicePasses size n ok q) (λ lens. LeastChoice size n ok q lens)
 answers-all size n ok q order r h =
     cases-map r (InfeasibleByPlace size n ok q) (NoChoicePasses size n ok q) (λ lens. LeastByPlace size n ok q lens) (λ lens. LeastChoice size n ok q lens)
     (infeasible-all size n ok q order) (least-all size n ok q order) h

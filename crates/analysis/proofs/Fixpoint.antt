@@ -22,8 +22,8 @@ total-lt f g zero h k l s = absurd (omega arith)
 total-lt f g (suc n) h k l s =
     ⊎-elim
     (λ e.
-      let r = total-le f g n (λ k l. h k (omega arith)) in
-      let t : f n < g n = subst (λ j. f j < g j) e s in omega arith)
+    let r = total-le f g n (λ k l. h k (omega arith)) in
+    let t : f n < g n = subst (λ j. f j < g j) e s in omega arith)
     (λ o. let r = total-lt f g n (λ k l. h k (omega arith)) k (⊎-elim (λ x. x) (λ x. absurd (omega arith)) o) s in let t = h n (omega arith) in omega arith)
     (cases-order k n)
 
@@ -36,7 +36,7 @@ set-rises bs k w room le j =
 
 module _ (n : ℕ) (low high : ℕ → ℕ) (g : ℕ → List ℕ → ℕ → ℕ)
     (up : (k : ℕ) (xs bs : List ℕ) → k < n → BoundsWithin n low high xs → BoundsWithin n low high bs → ((j : ℕ) → j < n → (j ≡ k → ⊥) → getD xs j 0 ≤ getD bs j 0)
-      → (v w : ℕ) → low k ≤ v → v ≤ w → w ≤ high k → g k xs v ≤ g k bs w) where
+    → (v w : ℕ) → low k ≤ v → v ≤ w → w ≤ high k → g k xs v ≤ g k bs w) where
   pub rising-start : (bs : List ℕ) → ((k : ℕ) → k < n → getD bs k 0 ≡ low k) → ((k : ℕ) → k < n → low k ≤ high k) → ((k : ℕ) → k < n → low k ≤ g k bs (low k)) → Rising n low high g bs
   rising-start bs e h f = record {
     within = λ k l. let s = e k l in let t = h k l in (omega arith, omega arith);
@@ -78,35 +78,38 @@ module _ (n : ℕ) (low high : ℕ → ℕ) (g : ℕ → List ℕ → ℕ → �
       rising-more = record {
         within = next-within;
         rises = λ j l.
-          ⊎-elim
-          (λ e. subst (λ i. getD (set bs k w) i 0 ≤ g i (set bs k w) (getD (set bs k w) i 0)) (sym e)
+            ⊎-elim
+            (λ e. subst (λ i. getD (set bs k w) i 0 ≤ g i (set bs k w) (getD (set bs k w) i 0)) (sym e)
             (subst (λ v. v ≤ g k (set bs k w) v) (sym at) (let s = grown k here w (kept .0) (kept .1) in let t = kept .2 in omega arith)))
-          (λ e. subst (λ v. v ≤ g j (set bs k w) v) (sym (getD-set-other bs k j w 0 e))
+            (λ e. subst (λ v. v ≤ g j (set bs k w) v) (sym (getD-set-other bs k j w 0 e))
             (let s = grown j l (getD bs j 0) (r .within j l .0) (r .within j l .1) in let t = r .rises j l in omega arith))
-          (cases-eq j k);
+            (cases-eq j k);
         lowest = λ j l v a b c.
-          let s = grown j l v a b in
-          ⊎-elim
-          (λ e.
+            let s = grown j l v a b in
+            ⊎-elim
+            (λ e.
             let t : w ≤ v = kept .3 v (subst (λ i. low i ≤ v) e a) (subst (λ i. v ≤ high i) e b) (subst (λ i. g i bs v ≤ v) e (omega arith)) in
             subst (λ i. getD (set bs k w) i 0 ≤ v) (sym e) (let u = at in omega arith))
-          (λ e. let t = getD-set-other bs k j w 0 e in let u = r .lowest j l v a b (omega arith) in omega arith)
-          (cases-eq j k);
+            (λ e. let t = getD-set-other bs k j w 0 e in let u = r .lowest j l v a b (omega arith) in omega arith)
+            (cases-eq j k);
         below = λ o wo so j l.
-          ⊎-elim
-          (λ e. subst (λ i. getD (set bs k w) i 0 ≤ getD o i 0) (sym e)
+            ⊎-elim
+            (λ e. subst (λ i. getD (set bs k w) i 0 ≤ getD o i 0) (sym e)
             (let t = kept .3 (getD o k 0) (wo k here .0) (wo k here .1) (below-own o wo so) in let u = at in omega arith))
-          (λ e. let t = getD-set-other bs k j w 0 e in let u = r .below o wo so j l in omega arith)
-          (cases-eq j k);
+            (λ e. let t = getD-set-other bs k j w 0 e in let u = r .below o wo so j l in omega arith)
+            (cases-eq j k);
       }
 
 -- one number that rises to what h keeps
 module _ (low high : ℕ) (h : ℕ → ℕ) (grows : (v w : ℕ) → low ≤ v → v ≤ w → w ≤ high → h v ≤ h w) (b : ℕ) (from : low ≤ b) (to : b ≤ high) (rises : b ≤ h b)
     (lowest : (v : ℕ) → low ≤ v → v ≤ high → h v ≤ v → b ≤ v) where
   pub kept-more : (next : ℕ) → next ≡ h b → next ≤ high → (low ≤ next) × (next ≤ high) × (next ≤ h next) × ((v : ℕ) → low ≤ v → v ≤ high → h v ≤ v → next ≤ v)
-  kept-more next e le =
-      (omega arith, le, (let s = grows b next from (omega arith) le in omega arith),
-       λ v a c d. let s = grows b v from (lowest v a c d) c in omega arith)
+  kept-more next e le = (
+    omega arith,
+    le,
+    (let s = grows b next from (omega arith) le in omega arith),
+    λ v a c d. let s = grows b v from (lowest v a c d) c in omega arith,
+  )
 
   pub kept-none : high < h b → (v : ℕ) → low ≤ v → v ≤ high → h v ≤ v → ⊥
   kept-none over v a c d = let s = grows b v from (lowest v a c d) c in omega arith
@@ -114,17 +117,22 @@ module _ (low high : ℕ) (h : ℕ → ℕ) (grows : (v w : ℕ) → low ≤ v �
 -- one place of a sweep, from the highest down
 module _ (T : List ℕ → ℕ) (Solved : List ℕ → ℕ → Type 0) (top : ℕ) (first old new : List ℕ) (p : ℕ) (some : 0 < p) (so-far : T first ≤ T old) where
   pub sweep-more : (changed raised : Bool) → When changed (T first < T old) ((old ≡ first) × ((i : ℕ) → p ≤ i → i < top → Solved old i)) → When raised (T old < T new) ((new ≡ old) × Solved new (p - 1))
-    → (T first ≤ T new) × When (changed || raised) (T first < T new) ((new ≡ first) × ((i : ℕ) → p - 1 ≤ i → i < top → Solved new i))
+      → (T first ≤ T new) × When (changed || raised) (T first < T new) ((new ≡ first) × ((i : ℕ) → p - 1 ≤ i → i < top → Solved new i))
   sweep-more true true h r = (omega arith, omega arith)
   sweep-more true false h r = let e = ap T (r .0) in (omega arith, omega arith)
   sweep-more false true h r = (omega arith, omega arith)
   sweep-more false false h r =
-      let e = ap T (r .0) in
-      (omega arith, (r .0 ∙ h .0, λ i a b.
-        ⊎-elim
-        (λ x. subst (λ j. Solved new j) x (r .1))
-        (λ x. subst (λ l. Solved l i) (sym (r .0)) (h .1 i (⊎-elim (λ y. omega arith) (λ y. absurd (omega arith)) x) b))
-        (cases-order (p - 1) i)))
+      let e = ap T (r .0) in (
+        omega arith,
+        (
+          r .0 ∙ h .0,
+          λ i a b.
+              ⊎-elim
+              (λ x. subst (λ j. Solved new j) x (r .1))
+              (λ x. subst (λ l. Solved l i) (sym (r .0)) (h .1 i (⊎-elim (λ y. omega arith) (λ y. absurd (omega arith)) x) b))
+              (cases-order (p - 1) i),
+        ),
+      )
 
 pub sweep-all : (changed : Bool) (A E L : Type 0) (P : ℕ → Type 0) (top p : ℕ) → p ≡ 0 → When changed A (E × ((i : ℕ) → p ≤ i → i < top → P i)) → (((i : ℕ) → i < top → P i) → L) → When changed A L
 sweep-all true A E L P top p e h f = h
@@ -137,3 +145,10 @@ when-yes false A B e h = absurd (false≢true e)
 pub when-no : (b : Bool) (A B : Type 0) → b ≡ false → When b A B → B
 when-no true A B e h = absurd (true≢false e)
 when-no false A B e h = h
+
+pub when-map : (A B A′ B′ : Type 0) (b : Bool) → (A → A′) → (B → B′) → When b A B → When b A′ B′
+when-map A B A′ B′ true f g h = f h
+when-map A B A′ B′ false f g h = g h
+
+pub ne-lt : (x y : ℕ) → x ≤ y → (y ≡ x → ⊥) → x < y
+ne-lt x y le ne = ⊎-elim (λ e. absurd (ne (sym e))) (⊎-elim (λ lt. lt) (λ gt. absurd (omega arith))) (cases-order x y)

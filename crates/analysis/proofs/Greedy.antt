@@ -10,16 +10,8 @@ use Rattle.std.proofs.shelf.Lists.{take-at, take-all, take-take, getD-take, get
 use Rattle.std.proofs.shelf.Tests.{cases-eq, cases-lt}
 use Rattle.analysis.specs.Rivals.{among}
 use Rattle.analysis.specs.Plans.{Named, IsChoice, Test}
-use Rattle.analysis.specs.Steps.{PlacesPass, LeastByPlace, InfeasibleByPlace}
+use Rattle.analysis.specs.Steps.{PlacesPass, LeastByPlace, InfeasibleByPlace, Greedy}
 use Rattle.analysis.proofs.Among.{among-none}
-
--- the tasks of q stand lowest, and at each place the length is the least of any choice that passes up to there
-pub record Greedy (size : ℕ → ℕ) (n : ℕ) (ok : Test) (q lens : List ℕ) : Type 0 where
-  pub named : Named n q
-  pub choice : IsChoice size n lens
-  pub pass : PlacesPass ok q lens
-  pub least : (other : List ℕ) → IsChoice size n other → (p : ℕ) → p < length q → PlacesPass ok (take (p + 1) q) other
-    → getD lens (getD q p 0) 0 ≤ getD other (getD q p 0) 0
 
 -- places of a list and of one that is longer at its end
 module _ (pre : List ℕ) (x : ℕ) where
@@ -37,12 +29,12 @@ module _ (pre : List ℕ) (x : ℕ) where
 
   -- what holds at each place of both parts
   pub push-places : (P : List ℕ → ℕ → Type 0) → ((p : ℕ) → p < length pre → P (take p pre) (getD pre p 0)) → P pre x
-    → (p : ℕ) → p < length (pre ++ x ∷ []) → P (take p (pre ++ x ∷ [])) (getD (pre ++ x ∷ []) p 0)
+      → (p : ℕ) → p < length (pre ++ x ∷ []) → P (take p (pre ++ x ∷ [])) (getD (pre ++ x ∷ []) p 0)
   push-places P old new p l =
       ⊎-elim (λ s. push-old P p s (old p s)) (λ s. push-new P p (omega (arith, length-push pre x)) new) (cases-lt p (length pre))
 
 pub prefix-places : (P : List ℕ → ℕ → Type 0) (q : List ℕ) (m : ℕ) → m ≤ length q → ((p : ℕ) → p < length q → P (take p q) (getD q p 0))
-  → (p : ℕ) → p < length (take m q) → P (take p (take m q)) (getD (take m q) p 0)
+    → (p : ℕ) → p < length (take m q) → P (take p (take m q)) (getD (take m q) p 0)
 prefix-places P q m l h p s =
     let t : p < m = omega (arith, length-take-le m q l) in
     subst₂ P (sym (take-take p m q (omega arith))) (sym (getD-take m q p 0 t)) (h p (omega arith))
@@ -66,8 +58,8 @@ module _ (size : ℕ → ℕ) (n : ℕ) (ok : Test) where
         choice = g .choice;
         pass = λ p l. old-push pre y (λ low k. ok low k lens (getD lens k 0)) p l (g .pass p (more p l));
         least = λ o c p l h.
-          subst (λ k. getD lens k 0 ≤ getD o k 0) (getD-append-left pre (y ∷ []) 0 p l)
-          (g .least o c p (more p l) (subst (λ l. PlacesPass ok l o) (sym (take-append-le (p + 1) pre (y ∷ []) (omega arith))) h));
+            subst (λ k. getD lens k 0 ≤ getD o k 0) (getD-append-left pre (y ∷ []) 0 p l)
+            (g .least o c p (more p l) (subst (λ l. PlacesPass ok l o) (sym (take-append-le (p + 1) pre (y ∷ []) (omega arith))) h));
       }
 
   pub infeasible-more : (q : List ℕ) (m : ℕ) → m ≤ length q → InfeasibleByPlace size n ok (take m q) → InfeasibleByPlace size n ok q
@@ -76,14 +68,13 @@ module _ (size : ℕ → ℕ) (n : ℕ) (ok : Test) where
   -- The test looks only at the lengths of what is placed lower, and holds for smaller ones.
   module _ (falls : (low : List ℕ) (k : ℕ) (lens other : List ℕ) (f : ℕ) → k < n → 1 ≤ f → f ≤ size k → IsChoice size n lens → IsChoice size n other
       → ((p : ℕ) → p < length low → getD lens (getD low p 0) 0 ≤ getD other (getD low p 0) 0) → ok low k other f → ok low k lens f)
-    (pre lens : List ℕ) (g : Greedy size n ok pre lens) (x : ℕ) (below : x < n) where
-
+      (pre lens : List ℕ) (g : Greedy size n ok pre lens) (x : ℕ) (below : x < n) where
     -- a length of x that passes with others passes with these
     passes-here : (o : List ℕ) → IsChoice size n o → PlacesPass ok (pre ++ x ∷ []) o → ok pre x lens (getD o x 0)
     passes-here o c h =
         falls pre x lens o (getD o x 0) below (c x below .0) (c x below .1) (g .choice) c
         (λ p l. g .least o c p l
-          (subst (λ l. PlacesPass ok l o) (take-append-le (p + 1) pre (x ∷ []) (omega arith)) (pass-prefix (pre ++ x ∷ []) o (p + 1) (omega (arith, length-push pre x)) h)))
+        (subst (λ l. PlacesPass ok l o) (take-append-le (p + 1) pre (x ∷ []) (omega arith)) (pass-prefix (pre ++ x ∷ []) o (p + 1) (omega (arith, length-push pre x)) h)))
         (new-push pre x (λ low k. ok low k o (getD o k 0)) (h (length pre) (omega (arith, length-push pre x))))
 
     pub greedy-none : ((f : ℕ) → 1 ≤ f → f ≤ size x → ok pre x lens f → ⊥) → InfeasibleByPlace size n ok (pre ++ x ∷ [])
@@ -114,28 +105,28 @@ module _ (size : ℕ → ℕ) (n : ℕ) (ok : Test) where
         named = push-places pre x (λ low k. (k < n) × (among low k ≡ false)) (g .named) (below, fresh);
         choice = next-choice;
         pass = push-places pre x (λ low k. ok low k (set lens x f) (getD (set lens x f) k 0))
-          (λ p l.
+            (λ p l.
             let k = getD pre p 0 in
             let kn = g .named p l .0 in
             let t = length-take-le p pre (omega arith) in
             subst (λ e. ok (take p pre) k (set lens x f) e) (sym (same-below p l))
             (falls (take p pre) k (set lens x f) lens (getD lens k 0) kn (g .choice k kn .0) (g .choice k kn .1) next-choice (g .choice)
-              (λ i s. let b = same-below i (omega arith) in let r = getD-take p pre i 0 (omega arith) in subst (λ j. getD (set lens x f) j 0 ≤ getD lens j 0) (sym r) (omega arith))
-              (g .pass p l)))
-          (subst (λ e. ok pre x (set lens x f) e) (sym (getD-set-same lens x f 0 room))
+            (λ i s. let b = same-below i (omega arith) in let r = getD-take p pre i 0 (omega arith) in subst (λ j. getD (set lens x f) j 0 ≤ getD lens j 0) (sym r) (omega arith))
+            (g .pass p l)))
+            (subst (λ e. ok pre x (set lens x f) e) (sym (getD-set-same lens x f 0 room))
             (falls pre x (set lens x f) lens f below low high next-choice (g .choice) (λ i s. let b = same-below i s in omega arith) here));
         least = λ o c p l h.
-          ⊎-elim
-          (λ s.
+            ⊎-elim
+            (λ s.
             subst (λ k. getD (set lens x f) k 0 ≤ getD o k 0) (sym (getD-append-left pre (x ∷ []) 0 p s))
             (let b = same-below p s in
-             let r = g .least o c p s (subst (λ l. PlacesPass ok l o) (take-append-le (p + 1) pre (x ∷ []) (omega arith)) h) in omega arith))
-          (λ s.
+            let r = g .least o c p s (subst (λ l. PlacesPass ok l o) (take-append-le (p + 1) pre (x ∷ []) (omega arith)) h) in omega arith))
+            (λ s.
             let e : p ≡ length pre = omega (arith, length-push pre x) in
             let whole : take (p + 1) (pre ++ x ∷ []) ≡ pre ++ x ∷ [] = take-all (p + 1) (pre ++ x ∷ []) (omega (arith, length-push pre x)) in
             let found = passes-here o c (subst (λ l. PlacesPass ok l o) whole h) in
             subst (λ k. getD (set lens x f) k 0 ≤ getD o k 0) (sym (getD-at pre x [] 0 p (sym e)))
             (let b = getD-set-same lens x f 0 room in
-             ⊎-elim (λ lt. absurd (none (getD o x 0) (c x below .0) lt found)) (λ le. omega arith) (cases-lt (getD o x 0) f)))
-          (cases-lt p (length pre));
+            ⊎-elim (λ lt. absurd (none (getD o x 0) (c x below .0) lt found)) (λ le. omega arith) (cases-lt (getD o x 0) f)))
+            (cases-lt p (length pre));
       }

@@ -32,24 +32,24 @@ module _ {X : Type 0} (p : ℕ → Bool) (g : ℕ → X) where
 
   -- a buffer that is filled from the front
   pub filled-yes : (out : List X) (used j : ℕ) → used < length out → p j ≡ true → take used out ≡ picked p g j
-    → take (used + 1) (set out used (g j)) ≡ picked p g (j + 1)
+      → take (used + 1) (set out used (g j)) ≡ picked p g (j + 1)
   filled-yes out used j l e h = take-more-set out used (g j) l ∙ ap (λ x. x ++ g j ∷ []) h ∙ sym (picked-yes j e)
 
   pub filled-no : (out : List X) (used j : ℕ) → p j ≡ false → take used out ≡ picked p g j → take used out ≡ picked p g (j + 1)
   filled-no out used j e h = h ∙ sym (picked-no j e)
 
 each-picked-more : {X : Type 0} (R : X → X → Type 0) (b : Bool) (xs ys : List X) (x y : X) → Each R xs ys → (b ≡ true → R x y)
-  → Each R (xs ++ cond b (x ∷ []) []) (ys ++ cond b (y ∷ []) [])
+    → Each R (xs ++ cond b (x ∷ []) []) (ys ++ cond b (y ∷ []) [])
 each-picked-more R true xs ys x y h r = each-push R xs ys x y h (r refl)
 each-picked-more R false xs ys x y h r = rw (append-nil xs, append-nil ys) h
 
 pub each-picked : {X : Type 0} (R : X → X → Type 0) (p : ℕ → Bool) (g h : ℕ → X) (n : ℕ) → ((j : ℕ) → j < n → p j ≡ true → R (g j) (h j))
-  → Each R (picked p g n) (picked p h n)
+    → Each R (picked p g n) (picked p h n)
 each-picked R p g h zero r = tt
 each-picked R p g h (suc n) r = each-picked-more R (p n) (picked p g n) (picked p h n) (g n) (h n) (each-picked R p g h n (λ j l e. r j (omega arith) e)) (λ e. r n (omega arith) e)
 
 count-more : {X : Type 0} (a b : Bool) (xs ys : List X) (x y : X) (n : ℕ) → (a ≡ true → b ≡ true → ⊥) → length xs + length ys ≤ n
-  → length (xs ++ cond a (x ∷ []) []) + length (ys ++ cond b (y ∷ []) []) ≤ suc n
+    → length (xs ++ cond a (x ∷ []) []) + length (ys ++ cond b (y ∷ []) []) ≤ suc n
 count-more true true xs ys x y n d h = absurd (d refl refl)
 count-more true false xs ys x y n d h = rw append-nil (omega (arith, length-push xs x))
 count-more false true xs ys x y n d h = rw append-nil (omega (arith, length-push ys y))
@@ -69,11 +69,11 @@ module _ {X : Type 0} (p q : ℕ → Bool) (g h : ℕ → X) (apart : (j : ℕ) 
   picked-fewer k a b (suc n) l =
       ⊎-elim
       (λ e.
-        let pn : picked p g (suc n) ≡ picked p g n = ap (λ l. picked p g n ++ l) (cond-false (p n) (g n ∷ []) [] (subst (λ j. p j ≡ false) e a)) ∙ append-nil (picked p g n) in
-        let qn : picked q h (suc n) ≡ picked q h n = ap (λ l. picked q h n ++ l) (cond-false (q n) (h n ∷ []) [] (subst (λ j. q j ≡ false) e b)) ∙ append-nil (picked q h n) in
-        omega (arith, ap length pn, ap length qn, picked-few n))
+      let pn : picked p g (suc n) ≡ picked p g n = ap (λ l. picked p g n ++ l) (cond-false (p n) (g n ∷ []) [] (subst (λ j. p j ≡ false) e a)) ∙ append-nil (picked p g n) in
+      let qn : picked q h (suc n) ≡ picked q h n = ap (λ l. picked q h n ++ l) (cond-false (q n) (h n ∷ []) [] (subst (λ j. q j ≡ false) e b)) ∙ append-nil (picked q h n) in
+      omega (arith, ap length pn, ap length qn, picked-few n))
       (λ l′.
-        let r = picked-fewer k a b n l′ in
-        let z = count-more (p n) (q n) (picked p g n) (picked q h n) (g n) (h n) (length (picked p g n) + length (picked q h n)) (apart n) (omega arith) in
-        omega arith)
+      let r = picked-fewer k a b n l′ in
+      let z = count-more (p n) (q n) (picked p g n) (picked q h n) (g n) (h n) (length (picked p g n) + length (picked q h n)) (apart n) (omega arith) in
+      omega arith)
       (cases-last k n l)

@@ -52,14 +52,14 @@ module _ (ts : List Task) (sound : TasksWithinLimits ts) (few : length ts ≤ 32
   uppers-within i l =
       all-getD RivalWithinLimits (uppers ts late low k) i nobody l
       (all-picked (above low k) (upper-rival ts late) RivalWithinLimits (length ts)
-        (λ j s e. let h = sound j s in let w = lates j s in (omega arith, omega arith, omega arith, omega arith, omega arith)))
+      (λ j s e. let h = sound j s in let w = lates j s in (omega arith, omega arith, omega arith, omega arith, omega arith)))
 
   module _ (lens : List ℕ) (choice : IsChoice (cost-of ts) (length ts) lens) where
     pub lowers-within : RivalsWithinLimits (lowers ts late lens low k)
     lowers-within i l =
         all-getD RivalWithinLimits (lowers ts late lens low k) i nobody l
         (all-picked (below low k) (lower-rival ts late lens) RivalWithinLimits (length ts)
-          (λ j s e. let h = sound j s in let w = lates j s in let c = choice j s in (omega arith, omega arith, omega arith, omega arith, omega arith)))
+        (λ j s e. let h = sound j s in let w = lates j s in let c = choice j s in (omega arith, omega arith, omega arith, omega arith, omega arith)))
 
     pub rivals-few : length (uppers ts late low k) + length (lowers ts late lens low k) ≤ 31
     rivals-few =
@@ -67,33 +67,33 @@ module _ (ts : List Task) (sound : TasksWithinLimits ts) (few : length ts ≤ 32
         omega arith
 
     pub question-valid : (m l e f : ℕ) → 1 ≤ m → m ≤ 16 → 1 ≤ e → e ≤ l → l ≤ 65535 → 1 ≤ f → f ≤ 65535
-      → Valid (posed m l e f (uppers ts late low k) (lowers ts late lens low k))
+        → Valid (posed m l e f (uppers ts late low k) (lowers ts late lens low k))
     question-valid m l e f a b c d g h i = record { times = (c, d, g, h, i); sizes = (a, b, rivals-few); uppers = uppers-within; lowers = lowers-within }
 
 module _ (ts : List Task) (sound : TasksWithinLimits ts) (few : length ts ≤ 32) (m : ℕ) (some : 1 ≤ m) (most : m ≤ 16) where
   asked-valid : (low : List ℕ) (k : ℕ) → k < length ts → (lens : List ℕ) → IsChoice (cost-of ts) (length ts) lens → (f : ℕ) → 1 ≤ f → f ≤ cost-of ts k
-    → Valid (asked m (getD ts k no-task) f (uppers ts (finish-limits ts) low k) (lowers ts (finish-limits ts) lens low k))
+      → Valid (asked m (getD ts k no-task) f (uppers ts (finish-limits ts) low k) (lowers ts (finish-limits ts) lens low k))
   asked-valid low k here lens c f a b =
       let h = sound k here in
       question-valid ts sound few (finish-limits ts) (limits-late ts sound) low k here lens c m _ _ f some most (omega arith) (omega arith) (omega arith) a (omega arith)
 
   pub passes-falls : (sum : Query → ℕ) → Lawful sum → (low : List ℕ) (k : ℕ) (lens other : List ℕ) (f : ℕ) → k < length ts → 1 ≤ f → f ≤ cost-of ts k
-    → IsChoice (cost-of ts) (length ts) lens → IsChoice (cost-of ts) (length ts) other
-    → ((p : ℕ) → p < length low → getD lens (getD low p 0) 0 ≤ getD other (getD low p 0) 0)
-    → PassesOver sum m ts low k other f → PassesOver sum m ts low k lens f
+      → IsChoice (cost-of ts) (length ts) lens → IsChoice (cost-of ts) (length ts) other
+      → ((p : ℕ) → p < length low → getD lens (getD low p 0) 0 ≤ getD other (getD low p 0) 0)
+      → PassesOver sum m ts low k other f → PassesOver sum m ts low k lens f
   passes-falls sum laws low k lens other f here a b c d less pass =
       let us = uppers ts (finish-limits ts) low k in
       let t = getD ts k no-task in
       let q = asked m t f us (lowers ts (finish-limits ts) lens low k) in
       let same-uppers = each-picked NoEarlier (above low k) (upper-rival ts (finish-limits ts)) (upper-rival ts (finish-limits ts)) (length ts) (λ j s e. (omega arith, refl)) in
       let each = each-picked NoSmaller (below low k) (lower-rival ts (finish-limits ts) lens) (lower-rival ts (finish-limits ts) other) (length ts)
-        (λ j s e.
-          let r = among-place low j (and-parts (not (eqb j k)) (among low j) e .1) in
-          let le : getD lens j 0 ≤ getD other j 0 = subst (λ x. getD lens x 0 ≤ getD other x 0) (r .2) (less (r .0) (r .1)) in
-          (omega arith, omega arith, refl)) in
+      (λ j s e.
+      let r = among-place low j (and-parts (not (eqb j k)) (among low j) e .1) in
+      let le : getD lens j 0 ≤ getD other j 0 = subst (λ x. getD lens x 0 ≤ getD other x 0) (r .2) (less (r .0) (r .1)) in
+      (omega arith, omega arith, refl)) in
       let grows : sum q ≤ sum (asked m t f us (lowers ts (finish-limits ts) other low k)) =
-        grows-together sum laws q (asked m t f us (lowers ts (finish-limits ts) other low k)) (asked-valid low k here lens c f a b) (asked-valid low k here other d f a b)
-          (record { cores = refl; demand = refl; region = refl; window = omega arith; upper = same-uppers; lower = each }) in
+      grows-together sum laws q (asked m t f us (lowers ts (finish-limits ts) other low k)) (asked-valid low k here lens c f a b) (asked-valid low k here other d f a b)
+      (record { cores = refl; demand = refl; region = refl; window = omega arith; upper = same-uppers; lower = each }) in
       omega (arith, div-grows (sum q) (sum (asked m t f us (lowers ts (finish-limits ts) other low k))) m some grows)
 
 -- a part from the start, as the code takes it

@@ -27,9 +27,9 @@ before-upto (q ∷ qs) (p ∷ pre) next x b =
     ⊎-elim
     (λ lt. inl (inl lt))
     (λ h. ⊎-elim
-      (λ r. inl (inr (h .0, r)))
-      (λ r. inr ((λ i. h .0 i ∷ r .0 i), r .1, r .2, omega (arith, r .3)))
-      (before-upto qs pre next x (h .1))) b
+    (λ r. inl (inr (h .0, r)))
+    (λ r. inr ((λ i. h .0 i ∷ r .0 i), r .1, r .2, omega (arith, r .3)))
+    (before-upto qs pre next x (h .1))) b
 
 before-zero : (q xs : List ℕ) → Before q (xs ++ 0 ∷ []) → Before q xs
 before-zero [] xs b = b
@@ -69,10 +69,10 @@ module _ (n : ℕ) (Bad : List ℕ → Type 0) where
     passed pre next s x gone q order b =
         ⊎-elim (s q order)
         (λ r.
-          let p = length pre in
-          let y = getD q p 0 in
-          let bad = gone y (r .1) (r .2) (subst (λ l. among l y ≡ false) (r .0) (order .1 p (r .3) .1)) in
-          more q (p + 1) (omega (arith, r .3)) (subst Bad (sym (take-more q p 0 (r .3) ∙ ap (λ l. l ++ y ∷ []) (r .0))) bad))
+        let p = length pre in
+        let y = getD q p 0 in
+        let bad = gone y (r .1) (r .2) (subst (λ l. among l y ≡ false) (r .0) (order .1 p (r .3) .1)) in
+        more q (p + 1) (omega (arith, r .3)) (subst Bad (sym (take-more q p 0 (r .3) ∙ ap (λ l. l ++ y ∷ []) (r .0))) bad))
         (before-upto q pre next x b)
 
     pub searched-place : (pre : List ℕ) (next : ℕ) → Searched pre next → (x : ℕ) → ((y : ℕ) → next ≤ y → y < x → Gone pre y) → Searched (pre ++ x ∷ []) 0
@@ -86,15 +86,15 @@ module _ (n : ℕ) (Bad : List ℕ → Type 0) where
     searched-back pre y next s l gone q order b =
         passed (pre ++ y ∷ []) next s n gone q order
         (⊎-elim
-          (λ r. before-extend q (pre ++ y ∷ []) (n ∷ []) r)
-          (λ r.
-            let m = length-push pre y in
-            let e : getD q (length pre) 0 ≡ y = omega (arith, r .1, r .2) in
-            let t : take (length (pre ++ y ∷ [])) q ≡ pre ++ y ∷ [] =
-              ap (λ k. take k q) m ∙ take-more q (length pre) 0 (r .3) ∙ (λ i. r .0 i ++ e i ∷ []) in
-            let room : length (pre ++ y ∷ []) < length q = omega (arith, m, order .0) in
-            before-begins q (pre ++ y ∷ []) n t room (order .1 (length (pre ++ y ∷ [])) room .0))
-          (before-upto q pre y (y + 1) b))
+        (λ r. before-extend q (pre ++ y ∷ []) (n ∷ []) r)
+        (λ r.
+        let m = length-push pre y in
+        let e : getD q (length pre) 0 ≡ y = omega (arith, r .1, r .2) in
+        let t : take (length (pre ++ y ∷ [])) q ≡ pre ++ y ∷ [] =
+        ap (λ k. take k q) m ∙ take-more q (length pre) 0 (r .3) ∙ (λ i. r .0 i ++ e i ∷ []) in
+        let room : length (pre ++ y ∷ []) < length q = omega (arith, m, order .0) in
+        before-begins q (pre ++ y ∷ []) n t room (order .1 (length (pre ++ y ∷ [])) room .0))
+        (before-upto q pre y (y + 1) b))
 
 -- the steps over the array that holds the tasks placed
 module _ (n : ℕ) (few : n ≤ 8) (order : List ℕ) (long : length order ≡ 8) (depth next : ℕ) (inside : depth < n) where

@@ -23,11 +23,11 @@ moved-is m t us ls f e a b =
     (λ i. posed m (w i) (d i) (r i) us ls)
 
 pub longer-meets : (sum : Query → ℕ) → Steady sum → (m : ℕ) (t : Task) (us ls : List Rival) → 1 ≤ m → m ≤ 16 → TaskWithinLimits t → length us + length ls ≤ 31 → RivalsWithinLimits us → RivalsWithinLimits ls
-  → (f e : ℕ) → 1 ≤ f → f ≤ e → e ≤ t .cost → Meets sum m t us ls f → Meets sum m t us ls e
+    → (f e : ℕ) → 1 ≤ f → f ≤ e → e ≤ t .cost → Meets sum m t us ls f → Meets sum m t us ls e
 longer-meets sum steady m t us ls a b s few hu hl f e c d g h =
     let eq = moved-is m t us ls f e c d in
     let v = asked-valid m t us ls a b s few hu hl f c (omega arith) in
     let w = asked-valid m t us ls a b s few hu hl e (omega arith) g in
     let le : sum (asked m t e us ls) ≤ sum (asked m t f us ls) =
-      subst (λ (q : Query). sum q ≤ sum (asked m t f us ls)) eq (steady (asked m t f us ls) (e - f) v (subst (λ (q : Query). Valid q) (sym eq) w)) in
+    subst (λ (q : Query). sum q ≤ sum (asked m t f us ls)) eq (steady (asked m t f us ls) (e - f) v (subst (λ (q : Query). Valid q) (sym eq) w)) in
     omega (arith, div-grows (sum (asked m t e us ls)) (sum (asked m t f us ls)) m a le)

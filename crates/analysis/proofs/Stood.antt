@@ -17,7 +17,7 @@ use Rattle.analysis.proofs.Among.{under-at}
 use native.Mathlib.Omega.{arith}
 
 pub carried-over : (P : ℕ → Task → List Rival → List Rival → Type 0) {m m′ : ℕ} {t t′ : Task} {us us′ ls ls′ : List Rival}
-  → m ≡ m′ → t ≡ t′ → us ≡ us′ → ls ≡ ls′ → P m t us ls → P m′ t′ us′ ls′
+    → m ≡ m′ → t ≡ t′ → us ≡ us′ → ls ≡ ls′ → P m t us ls → P m′ t′ us′ ls′
 carried-over P {m} {m′} {t} {t′} {us} {us′} {ls} {ls′} a b c d h =
     subst (λ (x : List Rival). P m′ t′ us′ x) d (subst (λ (x : List Rival). P m′ t′ x ls) c (subst (λ (x : Task). P m′ x us ls) b (subst (λ (x : ℕ). P x t us ls) a h)))
 

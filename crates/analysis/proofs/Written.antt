@@ -49,7 +49,7 @@ top-map f g zero (x ∷ xs) = refl
 top-map f g (suc n) (x ∷ xs) = omega (arith, top-map f g n xs, top-map f g (suc n) xs)
 
 greatest-picked : {X : Type 0} (f : X → ℕ) (p : ℕ → Bool) (g : ℕ → X) (m n : ℕ)
-  → greatest-total f m (picked p g n) ≡ greatest-total (λ j. f (g j)) m (picked p (λ j. j) n)
+    → greatest-total f m (picked p g n) ≡ greatest-total (λ j. f (g j)) m (picked p (λ j. j) n)
 greatest-picked f p g m n =
     ap (greatest-total f m) (picked-map p g n) ∙ greatest-top f m (map g (picked p (λ j. j) n)) ∙ top-map f g m (picked p (λ j. j) n)
     ∙ sym (greatest-top (λ j. f (g j)) m (picked p (λ j. j) n))
@@ -69,19 +69,30 @@ module _ (m : ℕ) (ts : List Task) (q lens : List ℕ) (k : ℕ) (late : List �
   lowers-are = picked-same (lower q k) (lower-rival ts late lens) (lower-by ts lens by) (length ts) (λ j h. ap (rival-of (getD ts j no-task) (getD lens j 0 - 1)) (same j h))
 
   pub full-written : full-sum (posed m l (before-region ts lens k) (getD lens k 0) (uppers ts late (under q k) k) (lowers ts late lens (under q k) k))
-    ≡ full-interference ts q lens k by l (before-region ts lens k)
+      ≡ full-interference ts q lens k by l (before-region ts lens k)
   full-written =
       let x = posed m l (before-region ts lens k) (getD lens k 0) [] [] in
-      omega (arith, ap (sumBy (carry-in-share x)) uppers-are, ap (sumBy (carry-in-share x)) lowers-are,
-        sum-picked (carry-in-share x) (higher q k) (upper-by ts by) (length ts), sum-picked (carry-in-share x) (lower q k) (lower-by ts lens by) (length ts))
+      omega (
+        arith,
+        ap (sumBy (carry-in-share x)) uppers-are,
+        ap (sumBy (carry-in-share x)) lowers-are,
+        sum-picked (carry-in-share x) (higher q k) (upper-by ts by) (length ts),
+        sum-picked (carry-in-share x) (lower q k) (lower-by ts lens by) (length ts),
+      )
 
   pub limited-written : limited-sum (posed m l (before-region ts lens k) (getD lens k 0) (uppers ts late (under q k) k) (lowers ts late lens (under q k) k))
-    ≡ limited-interference m ts q lens k by l (before-region ts lens k)
+      ≡ limited-interference m ts q lens k by l (before-region ts lens k)
   limited-written =
       let x = posed m l (before-region ts lens k) (getD lens k 0) [] [] in
-      omega (arith, ap (sumBy (plain-share x)) uppers-are, ap (sumBy (carry-in-share x)) lowers-are, ap (greatest-total (carried x) (m - 1)) uppers-are,
-        sum-picked (plain-share x) (higher q k) (upper-by ts by) (length ts), sum-picked (carry-in-share x) (lower q k) (lower-by ts lens by) (length ts),
-        greatest-picked (carried x) (higher q k) (upper-by ts by) (m - 1) (length ts))
+      omega (
+        arith,
+        ap (sumBy (plain-share x)) uppers-are,
+        ap (sumBy (carry-in-share x)) lowers-are,
+        ap (greatest-total (carried x) (m - 1)) uppers-are,
+        sum-picked (plain-share x) (higher q k) (upper-by ts by) (length ts),
+        sum-picked (carry-in-share x) (lower q k) (lower-by ts lens by) (length ts),
+        greatest-picked (carried x) (higher q k) (upper-by ts by) (m - 1) (length ts),
+      )
 
 -- a decision of one is a decision of the other, beside any other fact
 pub when-same : (A B C : Type 0) (b : Bool) → Equivalent B C → When b (A × B) (A × B → ⊥) → When b (A × C) (A × C → ⊥)
@@ -90,8 +101,8 @@ when-same A B C false e h = λ x. h (x .0, e .1 (x .1))
 
 -- the test of a task under a rule, where its sum is what is taken
 passes-written : (sum : Query → ℕ) (m : ℕ) (ts : List Task) (q lens : List ℕ) (k y : ℕ)
-  → sum (posed m (start-limit ts lens k) (before-region ts lens k) (getD lens k 0) (uppers ts (finish-limits ts) (under q k) k) (lowers ts (finish-limits ts) lens (under q k) k)) ≡ y
-  → Equivalent (Passes sum m ts q lens k) (before-region ts lens k + y / m ≤ start-limit ts lens k)
+    → sum (posed m (start-limit ts lens k) (before-region ts lens k) (getD lens k 0) (uppers ts (finish-limits ts) (under q k) k) (lowers ts (finish-limits ts) lens (under q k) k)) ≡ y
+    → Equivalent (Passes sum m ts q lens k) (before-region ts lens k + y / m ≤ start-limit ts lens k)
 passes-written sum m ts q lens k y e =
     let P : ℕ → Type 0 = λ z. before-region ts lens k + z / m ≤ start-limit ts lens k in
     (λ h. subst P e h, λ h. subst P (sym e) h)
@@ -104,21 +115,22 @@ limited-deadline-written m ts q lens k = passes-written limited-sum m ts q lens 
 
 -- bounds under a rule, where its sum is what is taken
 solution-written : (sum : Query → ℕ) (m : ℕ) (ts : List Task) (q lens bounds : List ℕ) (taken : ℕ → (ℕ → ℕ) → ℕ → ℕ)
-  → ((k r : ℕ) → sum (posed m r (before-region ts lens k) (getD lens k 0) (uppers ts bounds (under q k) k) (lowers ts bounds lens (under q k) k)) ≡ taken k (λ j. getD bounds j 0) r)
-  → Equivalent (Solution sum m ts q lens bounds) ((k : ℕ) → k < length ts → ResponseTime m ts lens bounds (taken k) k)
-solution-written sum m ts q lens bounds taken e =
-    (λ s k h. let w = s .within k h in let r = s .solves k h in (w .0, w .1, (r .0, r .1, r .2 ∙ ap (λ y. before-region ts lens k + y / m) (e k (r .0)))),
-     λ t. record {
-       within = λ k h. (t k h .0, t k h .1);
-       solves = λ k h. let r = t k h .2 in (r .0, r .1, r .2 ∙ sym (ap (λ y. before-region ts lens k + y / m) (e k (r .0))))
-     })
+    → ((k r : ℕ) → sum (posed m r (before-region ts lens k) (getD lens k 0) (uppers ts bounds (under q k) k) (lowers ts bounds lens (under q k) k)) ≡ taken k (λ j. getD bounds j 0) r)
+    → Equivalent (Solution sum m ts q lens bounds) ((k : ℕ) → k < length ts → ResponseTime m ts lens bounds (taken k) k)
+solution-written sum m ts q lens bounds taken e = (
+  λ s k h. let w = s .within k h in let r = s .solves k h in (w .0, w .1, (r .0, r .1, r .2 ∙ ap (λ y. before-region ts lens k + y / m) (e k (r .0)))),
+  λ t. record {
+    within = λ k h. (t k h .0, t k h .1);
+    solves = λ k h. let r = t k h .2 in (r .0, r .1, r .2 ∙ sym (ap (λ y. before-region ts lens k + y / m) (e k (r .0))));
+  },
+)
 
 pub response-written : (m : ℕ) (ts : List Task) (q lens bounds : List ℕ) → Equivalent (Solution full-sum m ts q lens bounds) (ResponseTimeAnalysis m ts q lens bounds)
 response-written m ts q lens bounds =
     solution-written full-sum m ts q lens bounds (λ k late r. full-interference ts q lens k late r (before-region ts lens k))
-      (λ k r. full-written m ts q lens k bounds (λ j. getD bounds j 0) (λ j h. refl) r)
+    (λ k r. full-written m ts q lens k bounds (λ j. getD bounds j 0) (λ j h. refl) r)
 
 pub limited-response-written : (m : ℕ) (ts : List Task) (q lens bounds : List ℕ) → Equivalent (Solution limited-sum m ts q lens bounds) (LimitedResponseTimeAnalysis m ts q lens bounds)
 limited-response-written m ts q lens bounds =
     solution-written limited-sum m ts q lens bounds (λ k late r. limited-interference m ts q lens k late r (before-region ts lens k))
-      (λ k r. limited-written m ts q lens k bounds (λ j. getD bounds j 0) (λ j h. refl) r)
+    (λ k r. limited-written m ts q lens k bounds (λ j. getD bounds j 0) (λ j h. refl) r)

@@ -9,7 +9,7 @@ use Rattle.std.specs.Options.{Cases}
 use Rattle.interference.specs.Questions.{Query}
 use Rattle.analysis.specs.declared.task.Task.{Task}
 use Rattle.analysis.specs.Rivals.{cost-of, limit-of, among}
-use Rattle.analysis.specs.Plans.{IsOrder, IsChoice, Test, Before}
+use Rattle.analysis.specs.Plans.{Named, IsOrder, IsChoice, Test, Before}
 use Rattle.analysis.specs.Bounds.{bound-of, BoundsWithin}
 
 -- the first number from 1 to top that passes, or none does
@@ -27,6 +27,14 @@ pub record LeastByPlace (size : ℕ → ℕ) (n : ℕ) (ok : Test) (q lens : Lis
   pub choice : IsChoice size n lens
   pub pass : PlacesPass ok q lens
   pub least : (other : List ℕ) → IsChoice size n other → PlacesPass ok q other → (p : ℕ) → p < length q → getD lens (getD q p 0) 0 ≤ getD other (getD q p 0) 0
+
+-- the tasks of q stand lowest, and at each place the length is the least of any choice that passes up to there
+pub record Greedy (size : ℕ → ℕ) (n : ℕ) (ok : Test) (q lens : List ℕ) : Type 0 where
+  pub named : Named n q
+  pub choice : IsChoice size n lens
+  pub pass : PlacesPass ok q lens
+  pub least : (other : List ℕ) → IsChoice size n other → (p : ℕ) → p < length q → PlacesPass ok (take (p + 1) q) other
+      → getD lens (getD q p 0) 0 ≤ getD other (getD q p 0) 0
 
 abbrev pub InfeasibleByPlace : (ℕ → ℕ) → ℕ → Test → List ℕ → Type 0
 InfeasibleByPlace size n ok q = (lens : List ℕ) → IsChoice size n lens → PlacesPass ok q lens → ⊥

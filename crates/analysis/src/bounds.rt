@@ -1,6 +1,6 @@
 ghost use Prim.Native.Nat.{ℕ, _≤_, _<_};
 ghost use mathlib.Core.Path.{_≡_};
-ghost use lib.ListN.{length, getD};
+ghost use lib.ListN.{length, getD, set};
 ghost use Rattle.std.specs.Options.{Cases};
 ghost use Rattle.std.specs.Orderings.{When};
 ghost use Rattle.analysis.specs.Rivals.{finish-limit, cost-of, limit-of, uppers, lowers};
@@ -20,7 +20,7 @@ use interference::rule::Rule;
 pub fn seek_bounds<R: Rule>(rule: &R, tasks: &Arranged) -> Option<[u32; 32]>
     ensures { λ r. ⌜ Cases r (NoSolution (R·Rule .meaning (now (rule .entry))) (now (tasks .entry) .ordered .set .cores) (now (now (tasks .entry) .ordered .set .tasks)) (now (now (tasks .entry) .ordered .order)) (now (now (tasks .entry) .lengths)))
         (λ bounds. LeastSolution (R·Rule .meaning (now (rule .entry))) (now (tasks .entry) .ordered .set .cores) (now (now (tasks .entry) .ordered .set .tasks)) (now (now (tasks .entry) .ordered .order)) (now (now (tasks .entry) .lengths)) bounds
-            × Padded (length (now (now (tasks .entry) .ordered .set .tasks))) 0 bounds) ⌝ }
+        × Padded (length (now (now (tasks .entry) .ordered .set .tasks))) 0 bounds) ⌝ }
 {
     let mut bounds = [0; 32];
     fill_costs(tasks.ordered.set.tasks, &mut bounds);
@@ -55,9 +55,9 @@ fn sweep<R: Rule>(rule: &R, tasks: &Arranged, bounds: &mut [u32; 32]) -> Option<
     requires padded { ⌜ Padded (length (now (now tasks .ordered .set .tasks))) 0 (now bounds) ⌝ }
     ensures { λ r. ⌜ Cases r (Overrun (R·Rule .meaning (now (rule .entry))) (now (tasks .entry) .ordered .set .cores) (now (now (tasks .entry) .ordered .set .tasks)) (now (now (tasks .entry) .ordered .order)) (now (now (tasks .entry) .lengths)))
         (λ changed. Rising (length (now (now (tasks .entry) .ordered .set .tasks))) (cost-of (now (now (tasks .entry) .ordered .set .tasks))) (limit-of (now (now (tasks .entry) .ordered .set .tasks))) (bound-of (R·Rule .meaning (now (rule .entry))) (now (tasks .entry) .ordered .set .cores) (now (now (tasks .entry) .ordered .set .tasks)) (now (now (tasks .entry) .ordered .order)) (now (now (tasks .entry) .lengths))) (now (bounds .exit))
-            × Padded (length (now (now (tasks .entry) .ordered .set .tasks))) 0 (now (bounds .exit))
-            × When changed (total (λ k. getD (now (bounds .entry)) k 0) (length (now (now (tasks .entry) .ordered .set .tasks))) < total (λ k. getD (now (bounds .exit)) k 0) (length (now (now (tasks .entry) .ordered .set .tasks))))
-                (LeastSolution (R·Rule .meaning (now (rule .entry))) (now (tasks .entry) .ordered .set .cores) (now (now (tasks .entry) .ordered .set .tasks)) (now (now (tasks .entry) .ordered .order)) (now (now (tasks .entry) .lengths)) (now (bounds .exit)))) ⌝ }
+        × Padded (length (now (now (tasks .entry) .ordered .set .tasks))) 0 (now (bounds .exit))
+        × When changed (total (λ k. getD (now (bounds .entry)) k 0) (length (now (now (tasks .entry) .ordered .set .tasks))) < total (λ k. getD (now (bounds .exit)) k 0) (length (now (now (tasks .entry) .ordered .set .tasks))))
+        (LeastSolution (R·Rule .meaning (now (rule .entry))) (now (tasks .entry) .ordered .set .cores) (now (now (tasks .entry) .ordered .set .tasks)) (now (now (tasks .entry) .ordered .order)) (now (now (tasks .entry) .lengths)) (now (bounds .exit)))) ⌝ }
 {
     let mut changed = false;
     'places: for p in (0..tasks.ordered.order.len()).rev() {
@@ -76,25 +76,38 @@ fn raise<R: Rule>(rule: &R, tasks: &Arranged, p: usize, bounds: &mut [u32; 32]) 
     requires padded { ⌜ Padded (length (now (now tasks .ordered .set .tasks))) 0 (now bounds) ⌝ }
     ensures { λ r. ⌜ Cases r (Overrun (R·Rule .meaning (now (rule .entry))) (now (tasks .entry) .ordered .set .cores) (now (now (tasks .entry) .ordered .set .tasks)) (now (now (tasks .entry) .ordered .order)) (now (now (tasks .entry) .lengths)))
         (λ raised. Rising (length (now (now (tasks .entry) .ordered .set .tasks))) (cost-of (now (now (tasks .entry) .ordered .set .tasks))) (limit-of (now (now (tasks .entry) .ordered .set .tasks))) (bound-of (R·Rule .meaning (now (rule .entry))) (now (tasks .entry) .ordered .set .cores) (now (now (tasks .entry) .ordered .set .tasks)) (now (now (tasks .entry) .ordered .order)) (now (now (tasks .entry) .lengths))) (now (bounds .exit))
-            × Padded (length (now (now (tasks .entry) .ordered .set .tasks))) 0 (now (bounds .exit))
-            × When raised (total (λ k. getD (now (bounds .entry)) k 0) (length (now (now (tasks .entry) .ordered .set .tasks))) < total (λ k. getD (now (bounds .exit)) k 0) (length (now (now (tasks .entry) .ordered .set .tasks))))
-                ((now (bounds .exit) ≡ now (bounds .entry)) × (bound-of (R·Rule .meaning (now (rule .entry))) (now (tasks .entry) .ordered .set .cores) (now (now (tasks .entry) .ordered .set .tasks)) (now (now (tasks .entry) .ordered .order)) (now (now (tasks .entry) .lengths)) (getD (now (now (tasks .entry) .ordered .order)) p 0) (now (bounds .exit)) (getD (now (bounds .exit)) (getD (now (now (tasks .entry) .ordered .order)) p 0) 0) ≡ getD (now (bounds .exit)) (getD (now (now (tasks .entry) .ordered .order)) p 0) 0))) ⌝ }
+        × Padded (length (now (now (tasks .entry) .ordered .set .tasks))) 0 (now (bounds .exit))
+        × When raised (total (λ k. getD (now (bounds .entry)) k 0) (length (now (now (tasks .entry) .ordered .set .tasks))) < total (λ k. getD (now (bounds .exit)) k 0) (length (now (now (tasks .entry) .ordered .set .tasks))))
+        ((now (bounds .exit) ≡ now (bounds .entry)) × (bound-of (R·Rule .meaning (now (rule .entry))) (now (tasks .entry) .ordered .set .cores) (now (now (tasks .entry) .ordered .set .tasks)) (now (now (tasks .entry) .ordered .order)) (now (now (tasks .entry) .lengths)) (getD (now (now (tasks .entry) .ordered .order)) p 0) (now (bounds .exit)) (getD (now (bounds .exit)) (getD (now (now (tasks .entry) .ordered .order)) p 0) 0) ≡ getD (now (bounds .exit)) (getD (now (now (tasks .entry) .ordered .order)) p 0) 0))) ⌝ }
 {
     let k = tasks.ordered.order[p];
     match place_bound(rule, tasks, bounds, &tasks.ordered.order[0..p], k) {
         None => None,
-        Some(b) => {
-            if b == bounds[k] {
-                return Some(false);
-            }
-            bounds[k] = b;
-            Some(true)
-        }
+        Some(b) => Some(store(bounds, k, b)),
     }
 }
 
+// Sets one bound, and says whether that changed it.
+fn store(bounds: &mut [u32; 32], k: usize, b: u32) -> bool
+    requires { ⌜ k < 32 ⌝ }
+    ensures stored { λ _. ⌜ now (bounds .exit) ≡ set (now (bounds .entry)) k b ⌝ }
+    ensures changed { λ r. ⌜ When r (b ≡ getD (now (bounds .entry)) k 0 → ⊥) (b ≡ getD (now (bounds .entry)) k 0) ⌝ }
+{
+    if b == bounds[k] {
+        return false;
+    }
+    bounds[k] = b;
+    true
+}
+
 // The least solution of task k's own equation, above those of the list, under the bounds of the others.
-fn place_bound<R: Rule>(rule: &R, tasks: &Arranged, bounds: &[u32], low: &[usize], k: usize) -> Option<u32>
+fn place_bound<R: Rule>(
+    rule: &R,
+    tasks: &Arranged,
+    bounds: &[u32],
+    low: &[usize],
+    k: usize,
+) -> Option<u32>
     requires late { ⌜ length (now (now tasks .ordered .set .tasks)) ≤ length (now bounds) ⌝ }
     requires within { ⌜ BoundsWithin (length (now (now tasks .ordered .set .tasks))) (cost-of (now (now tasks .ordered .set .tasks))) (limit-of (now (now tasks .ordered .set .tasks))) (now bounds) ⌝ }
     requires here { ⌜ k < length (now (now tasks .ordered .set .tasks)) ⌝ }
@@ -105,7 +118,15 @@ fn place_bound<R: Rule>(rule: &R, tasks: &Arranged, bounds: &[u32], low: &[usize
 {
     let mut upper = [NOBODY; 32];
     let mut lower = [NOBODY; 32];
-    let place = stand(&tasks.ordered.set, bounds, tasks.lengths, low, k, &mut upper, &mut lower);
+    let place = stand(
+        &tasks.ordered.set,
+        bounds,
+        tasks.lengths,
+        low,
+        k,
+        &mut upper,
+        &mut lower,
+    );
     own_bound(rule, &place, tasks.lengths[k], bounds[k])
 }
 

@@ -9,7 +9,9 @@ use crate::rivals::stands;
 use crate::task::Task;
 
 const MOST_CORES: u32 = 16;
+
 const MOST_TASKS: usize = 32;
+
 const MOST_TICKS: u32 = 65_535;
 
 // Whether these tasks on so many cores make a `TaskSet`.

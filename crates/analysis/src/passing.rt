@@ -17,7 +17,14 @@ fn part<R: Rule>(rule: &R, place: &Place, window: u32, f: u32) -> u32
     ensures fits { λ r. ⌜ r ≤ 1000000000 ⌝ }
 {
     let demand = place.task.cost - (f - 1);
-    let q = Question { cores: place.cores, window, demand, region: f, upper: place.upper, lower: place.lower };
+    let q = Question {
+        cores: place.cores,
+        window,
+        demand,
+        region: f,
+        upper: place.upper,
+        lower: place.lower,
+    };
     rule.sum(&q) / place.cores
 }
 

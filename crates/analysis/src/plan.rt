@@ -32,7 +32,7 @@ pub struct Plan {
 pub fn seek_plan<R: Rule>(rule: &R, tasks: &SmallSet) -> Option<Plan>
     ensures { λ r. ⌜ Cases r (NoPlan (R·Rule .meaning (now (rule .entry))) (now (tasks .entry) .set .cores) (now (now (tasks .entry) .set .tasks)))
         (λ p. FirstPlan (R·Rule .meaning (now (rule .entry))) (now (tasks .entry) .set .cores) (now (now (tasks .entry) .set .tasks)) (take (length (now (now (tasks .entry) .set .tasks))) (p .order)) (p .lengths)
-            × Padded (length (now (now (tasks .entry) .set .tasks))) 0 (p .order) × Padded (length (now (now (tasks .entry) .set .tasks))) 1 (p .lengths)) ⌝ }
+        × Padded (length (now (now (tasks .entry) .set .tasks))) 0 (p .order) × Padded (length (now (now (tasks .entry) .set .tasks))) 1 (p .lengths)) ⌝ }
 {
     plan_by(&Trying, rule, tasks)
 }
@@ -41,21 +41,29 @@ pub fn seek_plan<R: Rule>(rule: &R, tasks: &SmallSet) -> Option<Plan>
 pub fn quick_plan<R: SteadyRule>(rule: &R, tasks: &SmallSet) -> Option<Plan>
     ensures { λ r. ⌜ Cases r (NoPlan (R·Rule .meaning (now (rule .entry))) (now (tasks .entry) .set .cores) (now (now (tasks .entry) .set .tasks)))
         (λ p. FirstPlan (R·Rule .meaning (now (rule .entry))) (now (tasks .entry) .set .cores) (now (now (tasks .entry) .set .tasks)) (take (length (now (now (tasks .entry) .set .tasks))) (p .order)) (p .lengths)
-            × Padded (length (now (now (tasks .entry) .set .tasks))) 0 (p .order) × Padded (length (now (now (tasks .entry) .set .tasks))) 1 (p .lengths)) ⌝ }
+        × Padded (length (now (now (tasks .entry) .set .tasks))) 0 (p .order) × Padded (length (now (now (tasks .entry) .set .tasks))) 1 (p .lengths)) ⌝ }
 {
     plan_by(&Halving, rule, tasks)
 }
 
 // The first task from a number on that passes above those of the list, with its first length.
-fn candidate<R: Rule, F: Finder<R>>(finder: &F, rule: &R, set: &TaskSet, late: &[u32], lens: &[u32], low: &[usize], from: usize) -> Option<(usize, u32)>
+fn candidate<R: Rule, F: Finder<R>>(
+    finder: &F,
+    rule: &R,
+    set: &TaskSet,
+    late: &[u32],
+    lens: &[u32],
+    low: &[usize],
+    from: usize,
+) -> Option<(usize, u32)>
     requires late { ⌜ now late ≡ finish-limits (now (now set .tasks)) ⌝ }
     requires room { ⌜ length (now (now set .tasks)) ≤ length (now lens) ⌝ }
     requires choice { ⌜ IsChoice (cost-of (now (now set .tasks))) (length (now (now set .tasks))) (now lens) ⌝ }
     ensures { λ r. ⌜ Cases r
         ((y : ℕ) → from ≤ y → y < length (now (now (set .entry) .tasks)) → Stuck (cost-of (now (now (set .entry) .tasks))) (PassesOver (R·Rule .meaning (now (rule .entry))) (now (set .entry) .cores) (now (now (set .entry) .tasks))) (now (low .entry)) (now (lens .entry)) y)
         (λ p. (from ≤ p .0) × (p .0 < length (now (now (set .entry) .tasks))) × (among (now (low .entry)) (p .0) ≡ false)
-            × FirstIs (PassesOver (R·Rule .meaning (now (rule .entry))) (now (set .entry) .cores) (now (now (set .entry) .tasks)) (now (low .entry)) (p .0) (now (lens .entry))) (cost-of (now (now (set .entry) .tasks)) (p .0)) (p .1)
-            × ((y : ℕ) → from ≤ y → y < p .0 → Stuck (cost-of (now (now (set .entry) .tasks))) (PassesOver (R·Rule .meaning (now (rule .entry))) (now (set .entry) .cores) (now (now (set .entry) .tasks))) (now (low .entry)) (now (lens .entry)) y)) ⌝ }
+        × FirstIs (PassesOver (R·Rule .meaning (now (rule .entry))) (now (set .entry) .cores) (now (now (set .entry) .tasks)) (now (low .entry)) (p .0) (now (lens .entry))) (cost-of (now (now (set .entry) .tasks)) (p .0)) (p .1)
+        × ((y : ℕ) → from ≤ y → y < p .0 → Stuck (cost-of (now (now (set .entry) .tasks))) (PassesOver (R·Rule .meaning (now (rule .entry))) (now (set .entry) .cores) (now (now (set .entry) .tasks))) (now (low .entry)) (now (lens .entry)) y)) ⌝ }
 {
     let mut x = from;
     'tasks: loop {
@@ -76,7 +84,7 @@ fn candidate<R: Rule, F: Finder<R>>(finder: &F, rule: &R, set: &TaskSet, late: &
 fn plan_by<R: Rule, F: Finder<R>>(finder: &F, rule: &R, tasks: &SmallSet) -> Option<Plan>
     ensures { λ r. ⌜ Cases r (NoPlan (R·Rule .meaning (now (rule .entry))) (now (tasks .entry) .set .cores) (now (now (tasks .entry) .set .tasks)))
         (λ p. FirstPlan (R·Rule .meaning (now (rule .entry))) (now (tasks .entry) .set .cores) (now (now (tasks .entry) .set .tasks)) (take (length (now (now (tasks .entry) .set .tasks))) (p .order)) (p .lengths)
-            × Padded (length (now (now (tasks .entry) .set .tasks))) 0 (p .order) × Padded (length (now (now (tasks .entry) .set .tasks))) 1 (p .lengths)) ⌝ }
+        × Padded (length (now (now (tasks .entry) .set .tasks))) 0 (p .order) × Padded (length (now (now (tasks .entry) .set .tasks))) 1 (p .lengths)) ⌝ }
 {
     let set = tasks.set;
     let mut limits = [0; 32];
@@ -87,9 +95,20 @@ fn plan_by<R: Rule, F: Finder<R>>(finder: &F, rule: &R, tasks: &SmallSet) -> Opt
     let mut next = 0;
     'levels: loop {
         if depth == set.tasks.len() {
-            break 'levels Some(Plan { order, lengths: lens });
+            break 'levels Some(Plan {
+                order,
+                lengths: lens,
+            });
         }
-        if let Some((x, f)) = candidate(finder, rule, &set, &limits[0..set.tasks.len()], &lens, &order[0..depth], next) {
+        if let Some((x, f)) = candidate(
+            finder,
+            rule,
+            &set,
+            &limits[0..set.tasks.len()],
+            &lens,
+            &order[0..depth],
+            next,
+        ) {
             order[depth] = x;
             lens[x] = f;
             depth += 1;

@@ -12,7 +12,15 @@ use interference::rival::Rival;
 
 // Task k above those of the list, with their lengths, and below all others, with these latest finishes. The rivals go
 // into lent arrays.
-pub fn stand<'a>(set: &TaskSet, late: &[u32], lens: &[u32], low: &[usize], k: usize, upper: &'a mut [Rival; 32], lower: &'a mut [Rival; 32]) -> Place<'a>
+pub fn stand<'a>(
+    set: &TaskSet,
+    late: &[u32],
+    lens: &[u32],
+    low: &[usize],
+    k: usize,
+    upper: &'a mut [Rival; 32],
+    lower: &'a mut [Rival; 32],
+) -> Place<'a>
     requires late { ⌜ length (now (now set .tasks)) ≤ length (now late) ⌝ }
     requires finishes { ⌜ BoundsWithin (length (now (now set .tasks))) (cost-of (now (now set .tasks))) (limit-of (now (now set .tasks))) (now late) ⌝ }
     requires room { ⌜ length (now (now set .tasks)) ≤ length (now lens) ⌝ }
@@ -25,5 +33,10 @@ pub fn stand<'a>(set: &TaskSet, late: &[u32], lens: &[u32], low: &[usize], k: us
 {
     let used = fill_upper(set.tasks, late, low, k, upper);
     let taken = fill_lower(set.tasks, late, lens, low, k, lower);
-    Place { cores: set.cores, task: set.tasks[k], upper: &upper[0..used], lower: &lower[0..taken] }
+    Place {
+        cores: set.cores,
+        task: set.tasks[k],
+        upper: &upper[0..used],
+        lower: &lower[0..taken],
+    }
 }

@@ -51,7 +51,15 @@ fn place_passes<R: Rule>(rule: &R, tasks: &Arranged, p: usize) -> bool
     fill_limits(set.tasks, &mut limits);
     let mut upper = [NOBODY; 32];
     let mut lower = [NOBODY; 32];
-    let place = stand(&set, &limits[0..set.tasks.len()], tasks.lengths, &tasks.ordered.order[0..p], k, &mut upper, &mut lower);
+    let place = stand(
+        &set,
+        &limits[0..set.tasks.len()],
+        tasks.lengths,
+        &tasks.ordered.order[0..p],
+        k,
+        &mut upper,
+        &mut lower,
+    );
     passes(rule, &place, tasks.lengths[k])
 }
 
@@ -100,6 +108,14 @@ fn keeps<R: Rule>(rule: &R, tasks: &Arranged, bounds: &[u32], p: usize) -> bool
     let k = tasks.ordered.order[p];
     let mut upper = [NOBODY; 32];
     let mut lower = [NOBODY; 32];
-    let place = stand(&set, bounds, tasks.lengths, &tasks.ordered.order[0..p], k, &mut upper, &mut lower);
+    let place = stand(
+        &set,
+        bounds,
+        tasks.lengths,
+        &tasks.ordered.order[0..p],
+        k,
+        &mut upper,
+        &mut lower,
+    );
     next(rule, &place, tasks.lengths[k], bounds[k]) == bounds[k]
 }

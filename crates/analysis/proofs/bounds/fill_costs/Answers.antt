@@ -15,7 +15,8 @@ loop-i-again c =
     let v = c .loop-i .inv in
     let i = c .loop-i .i in
     let ts = c .args .tasks .now in
-    let lt : i < length (c .loop-i .out) = omega arith in
-    (simp length-set (v .0),
-     below-more _ _ (λ k h. let ne : k ≢ i = omega arith in rw getD-set-other (v .1 k h)) (rw getD-set-same),
-     padded-set (length ts) 0 (c .loop-i .out) i (cost-of ts i) (c .loop-i-test .taken) (v .2))
+    let lt : i < length (c .loop-i .out) = omega arith in (
+      simp length-set (v .0),
+      below-more _ _ (λ k h. let ne : k ≢ i = omega arith in rw getD-set-other (v .1 k h)) (rw getD-set-same),
+      padded-set (length ts) 0 (c .loop-i .out) i (cost-of ts i) (c .loop-i-test .taken) (v .2),
+    )

@@ -15,8 +15,8 @@ climbing-again g c =
     let v = c .climbing .inv in
     let sum = g .R·Rule .meaning (a .rule .now) in
     kept-more (t .cost) (t .deadline) (next-bound sum (p .cores) (t .cost) (a .f) (p .upper .now) (p .lower .now))
-      (next-bound-grows sum (g .R·Rule·met .laws (a .rule .now)) (p .cores) (t .cost) (a .f) (t .deadline) (p .upper .now) (p .lower .now) (p .some) (p .most) (r .0) (r .1) (omega arith) (p .few) (p .uppers) (p .lowers))
-      (c .climbing .b) (v .0) (v .1) (v .2) (v .3) (c .next-asked .result) (c .next-asked .ensures) (omega arith)
+    (next-bound-grows sum (g .R·Rule·met .laws (a .rule .now)) (p .cores) (t .cost) (a .f) (t .deadline) (p .upper .now) (p .lower .now) (p .some) (p .most) (r .0) (r .1) (omega arith) (p .few) (p .uppers) (p .lowers))
+    (c .climbing .b) (v .0) (v .1) (v .2) (v .3) (c .next-asked .result) (c .next-asked .ensures) (omega arith)
 
 pub returns-then-asked-most : need.returns-then-asked-most
 returns-then-asked-most g c =
@@ -27,5 +27,5 @@ returns-then-asked-most g c =
     let v = c .climbing .inv in
     let sum = g .R·Rule .meaning (a .rule .now) in
     kept-none (t .cost) (t .deadline) (next-bound sum (p .cores) (t .cost) (a .f) (p .upper .now) (p .lower .now))
-      (next-bound-grows sum (g .R·Rule·met .laws (a .rule .now)) (p .cores) (t .cost) (a .f) (t .deadline) (p .upper .now) (p .lower .now) (p .some) (p .most) (r .0) (r .1) (omega arith) (p .few) (p .uppers) (p .lowers))
-      (c .climbing .b) (v .0) (v .1) (v .2) (v .3) (omega (arith, c .next-asked .ensures))
+    (next-bound-grows sum (g .R·Rule·met .laws (a .rule .now)) (p .cores) (t .cost) (a .f) (t .deadline) (p .upper .now) (p .lower .now) (p .some) (p .most) (r .0) (r .1) (omega arith) (p .few) (p .uppers) (p .lowers))
+    (c .climbing .b) (v .0) (v .1) (v .2) (v .3) (omega (arith, c .next-asked .ensures))

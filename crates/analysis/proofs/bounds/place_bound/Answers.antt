@@ -32,4 +32,4 @@ returns g c =
     let a = c .args in
     let e = c .stand-place .ensures in
     carried-over (λ m t us ls. FirstKept (next-bound (g .R·Rule .meaning (a .rule .now)) m (t .cost) (getD (a .tasks .now .lengths .now) (a .k) 0) us ls) (t .cost) (finish-limit t) (c .own-bound .result))
-      (e .cores) (e .task) (e .upper) (e .lower) (c .own-bound .ensures)
+    (e .cores) (e .task) (e .upper) (e .lower) (c .own-bound .ensures)

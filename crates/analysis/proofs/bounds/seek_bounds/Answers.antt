@@ -26,12 +26,13 @@ sweeping-holds g c =
     let sum = g .R·Rule .meaning (a .rule .now) in
     let laws = g .R·Rule·met .laws (a .rule .now) in
     let bs = c .fill-costs .last .out in
-    let choice = a .tasks .now .choice in
-    (search needs,
-     rising-start (length ts) (cost-of ts) (limit-of ts) (bound-of sum (s .cores) ts q lens)
-      (bound-up sum laws (s .cores) (s .some) (s .most) ts (s .limits) (s .few) q lens choice) bs (c .fill-costs .ensures .costs)
-      (λ k l. let h = s .limits k l in omega arith) (λ k l. bound-floor sum laws (s .cores) (s .some) (s .most) ts (s .limits) (s .few) q lens choice k bs (cost-of ts k)),
-     c .fill-costs .ensures .padded)
+    let choice = a .tasks .now .choice in (
+      search needs,
+      rising-start (length ts) (cost-of ts) (limit-of ts) (bound-of sum (s .cores) ts q lens)
+          (bound-up sum laws (s .cores) (s .some) (s .most) ts (s .limits) (s .few) q lens choice) bs (c .fill-costs .ensures .costs)
+          (λ k l. let h = s .limits k l in omega arith) (λ k l. bound-floor sum laws (s .cores) (s .some) (s .most) ts (s .limits) (s .few) q lens choice k bs (cost-of ts k)),
+      c .fill-costs .ensures .padded,
+    )
 
 pub sweeping-less : need.sweeping-less
 sweeping-less g c =
@@ -43,7 +44,7 @@ sweeping-less g c =
     let new = c .sweep .last .bounds in
     let sum = g .R·Rule .meaning (a .rule .now) in
     let up : total (λ k. getD old k 0) (length ts) < total (λ k. getD new k 0) (length ts) =
-      when-yes (c .in-Some .changed) (total (λ k. getD old k 0) (length ts) < total (λ k. getD new k 0) (length ts)) (LeastSolution sum (o .set .cores) ts (o .order .now) (a .tasks .now .lengths .now) new) (c .if-not-changed .left) (h .2) in
+    when-yes (c .in-Some .changed) (total (λ k. getD old k 0) (length ts) < total (λ k. getD new k 0) (length ts)) (LeastSolution sum (o .set .cores) ts (o .order .now) (a .tasks .now .lengths .now) new) (c .if-not-changed .left) (h .2) in
     omega (arith, up, total-le (λ k. getD new k 0) (limit-of ts) (length ts) (λ k l. h .0 .within k l .1))
 
 pub sweeping-again : need.sweeping-again
@@ -57,9 +58,10 @@ returns-then-not-changed g c =
     let h = c .in-Some .ensures tt in
     let old = c .sweeping .bounds in
     let new = c .sweep .last .bounds in
-    let sum = g .R·Rule .meaning (a .rule .now) in
-    (when-no (c .in-Some .changed) (total (λ k. getD old k 0) (length ts) < total (λ k. getD new k 0) (length ts)) (LeastSolution sum (o .set .cores) ts (o .order .now) (a .tasks .now .lengths .now) new) (c .if-not-changed .taken) (h .2),
-     h .1)
+    let sum = g .R·Rule .meaning (a .rule .now) in (
+      when-no (c .in-Some .changed) (total (λ k. getD old k 0) (length ts) < total (λ k. getD new k 0) (length ts)) (LeastSolution sum (o .set .cores) ts (o .order .now) (a .tasks .now .lengths .now) new) (c .if-not-changed .taken) (h .2),
+      h .1,
+    )
 
 pub returns-in-None : need.returns-in-None
 returns-in-None g c =

@@ -25,7 +25,7 @@ places-again g c =
     let T : List ℕ → ℕ = λ bs. total (λ k. getD bs k 0) (length ts) in
     let sum = g .R·Rule .meaning (a .rule .now) in
     let s = sweep-more T (λ bs i. bound-of sum (o .set .cores) ts q lens (getD q i 0) bs (getD bs (getD q i 0) 0) ≡ getD bs (getD q i 0) 0)
-      (length q) (a .bounds .now) (c .places .bounds) (c .raise .last .bounds) (c .places .p) (omega arith) (v .2) (c .places .changed) (c .in-Some .raised) (v .3) (h .2) in
+    (length q) (a .bounds .now) (c .places .bounds) (c .raise .last .bounds) (c .places .p) (omega arith) (v .2) (c .places .changed) (c .in-Some .raised) (v .3) (h .2) in
     (search needs, h .0, s .0, s .1, h .1)
 
 pub returns : need.returns
@@ -39,8 +39,10 @@ returns g c =
     let v = c .places .inv in
     let T : List ℕ → ℕ = λ bs. total (λ k. getD bs k 0) (length ts) in
     let sum = g .R·Rule .meaning (a .rule .now) in
-    let bs = c .places .bounds in
-    (v .1, v .4,
-     sweep-all (c .places .changed) (T (a .bounds .now) < T bs) (bs ≡ a .bounds .now) (LeastSolution sum (s .cores) ts q lens bs)
-      (λ i. bound-of sum (s .cores) ts q lens (getD q i 0) bs (getD bs (getD q i 0) 0) ≡ getD bs (getD q i 0) 0) (length q) (c .places .p) (omega arith) (v .3)
-      (rising-least sum (g .R·Rule·met .laws (a .rule .now)) (s .cores) (s .some) (s .most) ts (s .limits) (s .few) q lens (a .tasks .now .choice) (o .whole, o .named) bs (v .1)))
+    let bs = c .places .bounds in (
+      v .1,
+      v .4,
+      sweep-all (c .places .changed) (T (a .bounds .now) < T bs) (bs ≡ a .bounds .now) (LeastSolution sum (s .cores) ts q lens bs)
+          (λ i. bound-of sum (s .cores) ts q lens (getD q i 0) bs (getD bs (getD q i 0) 0) ≡ getD bs (getD q i 0) 0) (length q) (c .places .p) (omega arith) (v .3)
+          (rising-least sum (g .R·Rule·met .laws (a .rule .now)) (s .cores) (s .some) (s .most) ts (s .limits) (s .few) q lens (a .tasks .now .choice) (o .whole, o .named) bs (v .1)),
+    )

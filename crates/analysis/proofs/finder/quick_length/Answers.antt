@@ -27,6 +27,10 @@ halving-again g c =
     let sum = g .R·Rule .meaning (x .rule .now) in
     let M : ℕ → Type 0 = Meets sum (p .cores) t (p .upper .now) (p .lower .now) in
     let half = c .halving .least + (c .halving .most - c .halving .least) / 2 in
-    let fails = when-no (c .passes-in-halving .result) (M half) (M half → ⊥) (c .if-passes .left) (c .passes-in-halving .ensures) in
-    (omega arith, omega arith, v .2, v .3,
-     λ f a b h. fails (longer-meets sum (c .steadies .ensures) (p .cores) t (p .upper .now) (p .lower .now) (p .some) (p .most) (p .limits) (p .few) (p .uppers) (p .lowers) f half a (omega arith) (omega arith) h))
+    let fails = when-no (c .passes-in-halving .result) (M half) (M half → ⊥) (c .if-passes .left) (c .passes-in-halving .ensures) in (
+      omega arith,
+      omega arith,
+      v .2,
+      v .3,
+      λ f a b h. fails (longer-meets sum (c .steadies .ensures) (p .cores) t (p .upper .now) (p .lower .now) (p .some) (p .most) (p .limits) (p .few) (p .uppers) (p .lowers) f half a (omega arith) (omega arith) h),
+    )

@@ -30,4 +30,4 @@ returns g c =
     let e = c .stand-place .ensures in
     let late = c .pre .late in
     carried-over (λ m t us ls. FirstTo (Meets (g .R·Rule .meaning (a .rule .now)) m t us ls) (t .cost) (c .first .result)) (e .cores) (e .task)
-      (e .upper ∙ ap (λ l. uppers ts l (a .low .now) (a .k)) late) (e .lower ∙ ap (λ l. lowers ts l (a .lens .now) (a .low .now) (a .k)) late) (c .first .ensures)
+    (e .upper ∙ ap (λ l. uppers ts l (a .low .now) (a .k)) late) (e .lower ∙ ap (λ l. lowers ts l (a .lens .now) (a .low .now) (a .k)) late) (c .first .ensures)

@@ -2,8 +2,7 @@ use mathlib.Core.Path.{_≡_}
 use lib.ListN.{length, take}
 use Rattle.analysis.specs.Rivals.{cost-of}
 use Rattle.analysis.specs.Passing.{PassesOver}
-use Rattle.analysis.specs.Steps.{Padded}
-use Rattle.analysis.proofs.Greedy.{Greedy}
+use Rattle.analysis.specs.Steps.{Padded, Greedy}
 use Rattle.analysis.proofs.lengths.lengths_by.Given as given
 
 abbrev pub Inv-places : given.InvT-places

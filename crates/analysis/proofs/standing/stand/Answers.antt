@@ -22,10 +22,24 @@ ghost-result c =
     let p = c .pre in
     let late = within-late ts (s .limits) (a .late .now) (p .finishes) in
     let us : take (c .fill-upper-used .result - 0) (c .fill-upper-used .last .out) ≡ uppers ts (a .late .now) (a .low .now) (a .k) =
-          part (c .fill-upper-used .result) (c .fill-upper-used .last .out) (c .fill-upper-used .ensures .filled) in
+    part (c .fill-upper-used .result) (c .fill-upper-used .last .out) (c .fill-upper-used .ensures .filled) in
     let ls : take (c .fill-lower-taken .result - 0) (c .fill-lower-taken .last .out) ≡ lowers ts (a .late .now) (a .lens .now) (a .low .now) (a .k) =
-          part (c .fill-lower-taken .result) (c .fill-lower-taken .last .out) (c .fill-lower-taken .ensures .filled) in
-    (s .some, (s .most, (s .limits (a .k) (p .here), (
-      subst₂ (λ (x : List Rival) (y : List Rival). length x + length y ≤ 31) (sym us) (sym ls) (rivals-few ts (s .limits) (s .few) (a .late .now) late (a .low .now) (a .k) (p .here) (a .lens .now) (p .choice)), (
-      subst (λ (x : List Rival). RivalsWithinLimits x) (sym us) (uppers-within ts (s .limits) (s .few) (a .late .now) late (a .low .now) (a .k) (p .here)), (
-      subst (λ (x : List Rival). RivalsWithinLimits x) (sym ls) (lowers-within ts (s .limits) (s .few) (a .late .now) late (a .low .now) (a .k) (p .here) (a .lens .now) (p .choice)), tt))))))
+    part (c .fill-lower-taken .result) (c .fill-lower-taken .last .out) (c .fill-lower-taken .ensures .filled) in (
+      s .some,
+      (
+        s .most,
+        (
+          s .limits (a .k) (p .here),
+          (
+            subst₂ (λ (x : List Rival) (y : List Rival). length x + length y ≤ 31) (sym us) (sym ls) (rivals-few ts (s .limits) (s .few) (a .late .now) late (a .low .now) (a .k) (p .here) (a .lens .now) (p .choice)),
+            (
+              subst (λ (x : List Rival). RivalsWithinLimits x) (sym us) (uppers-within ts (s .limits) (s .few) (a .late .now) late (a .low .now) (a .k) (p .here)),
+              (
+                subst (λ (x : List Rival). RivalsWithinLimits x) (sym ls) (lowers-within ts (s .limits) (s .few) (a .late .now) late (a .low .now) (a .k) (p .here) (a .lens .now) (p .choice)),
+                tt,
+              ),
+            ),
+          ),
+        ),
+      ),
+    )

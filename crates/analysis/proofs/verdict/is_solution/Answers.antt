@@ -23,7 +23,7 @@ returns-then-not-keeps g c h =
     let sum = g .R·Rule .meaning (a .rule .now) in
     let kept = bound-of sum (s .cores) ts q lens k bs (getD bs k 0) ≡ getD bs k 0 in
     when-no (c .keeps .result) kept (kept → ⊥) (c .if-not-keeps .taken) (c .keeps .ensures)
-      (solution-keeps sum (g .R·Rule·met .laws (a .rule .now)) (s .cores) (s .some) (s .most) ts (s .limits) (s .few) q lens (a .tasks .now .choice) bs (h .1) k (o .named (c .places .p) (omega arith) .0))
+    (solution-keeps sum (g .R·Rule·met .laws (a .rule .now)) (s .cores) (s .some) (s .most) ts (s .limits) (s .few) q lens (a .tasks .now .choice) bs (h .1) k (o .named (c .places .p) (omega arith) .0))
 
 pub returns : need.returns
 returns g c =
@@ -36,8 +36,10 @@ returns g c =
     let bs = a .bounds .now in
     let sum = g .R·Rule .meaning (a .rule .now) in
     let fits = (length ts ≤ length bs) × BoundsWithin (length ts) (cost-of ts) (limit-of ts) bs in
-    let w = when-yes (c .are-within .result) fits (fits → ⊥) (c .if-not-are-within .left) (c .are-within .ensures) in
-    (w .0, keeps-solution sum (g .R·Rule·met .laws (a .rule .now)) (s .cores) (s .some) (s .most) ts (s .limits) (s .few) q lens (a .tasks .now .choice) bs (w .1)
-      (λ k l.
-        let e = everyone (length ts) q (o .whole, o .named) k l in
-        subst (λ j. bound-of sum (s .cores) ts q lens j bs (getD bs j 0) ≡ getD bs j 0) (e .2) (c .places .inv (e .0) (omega (arith, e .1)))))
+    let w = when-yes (c .are-within .result) fits (fits → ⊥) (c .if-not-are-within .left) (c .are-within .ensures) in (
+      w .0,
+      keeps-solution sum (g .R·Rule·met .laws (a .rule .now)) (s .cores) (s .some) (s .most) ts (s .limits) (s .few) q lens (a .tasks .now .choice) bs (w .1)
+          (λ k l.
+          let e = everyone (length ts) q (o .whole, o .named) k l in
+          subst (λ j. bound-of sum (s .cores) ts q lens j bs (getD bs j 0) ≡ getD bs j 0) (e .2) (c .places .inv (e .0) (omega (arith, e .1)))),
+    )

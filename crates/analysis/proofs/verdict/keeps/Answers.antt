@@ -21,4 +21,4 @@ returns g c =
     let sum = g .R·Rule .meaning (a .rule .now) in
     let at-place = carried-over (λ m t us ls. r ≡ next-bound sum m (t .cost) f us ls b) (e .cores) (e .task) (e .upper) (e .lower) (c .next .ensures) in
     when-eqb r (bound-of sum (o .set .cores) ts q lens k bs b) b
-      (subst (λ low. r ≡ next-bound sum (o .set .cores) (cost-of ts k) f (uppers ts bs low k) (lowers ts bs lens low k) b) (lower-part (length ts) q (a .p) (o .named) (c .pre .place)) at-place)
+    (subst (λ low. r ≡ next-bound sum (o .set .cores) (cost-of ts k) f (uppers ts bs low k) (lowers ts bs lens low k) b) (lower-part (length ts) q (a .p) (o .named) (c .pre .place)) at-place)

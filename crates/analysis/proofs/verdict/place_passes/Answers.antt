@@ -39,6 +39,6 @@ returns g c =
     let late = part (length ts) (c .fill-limits .last .out) (c .fill-limits .ensures) in
     let sum = g .R·Rule .meaning (a .rule .now) in
     let at-place : When b (PassesOver sum (o .set .cores) ts low k lens (getD lens k 0)) (PassesOver sum (o .set .cores) ts low k lens (getD lens k 0) → ⊥) =
-          carried-over (λ m t us ls. When b (Meets sum m t us ls (getD lens k 0)) (Meets sum m t us ls (getD lens k 0) → ⊥)) (e .cores) (e .task)
-            (e .upper ∙ ap (λ l. uppers ts l low k) late) (e .lower ∙ ap (λ l. lowers ts l lens low k) late) (c .passes .ensures) in
+    carried-over (λ m t us ls. When b (Meets sum m t us ls (getD lens k 0)) (Meets sum m t us ls (getD lens k 0) → ⊥)) (e .cores) (e .task)
+    (e .upper ∙ ap (λ l. uppers ts l low k) late) (e .lower ∙ ap (λ l. lowers ts l lens low k) late) (c .passes .ensures) in
     subst (λ x. When b (PassesOver sum (o .set .cores) ts x k lens (getD lens k 0)) (PassesOver sum (o .set .cores) ts x k lens (getD lens k 0) → ⊥)) (lower-part (length ts) q (a .p) (o .named) (c .pre)) at-place
