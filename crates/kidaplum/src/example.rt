@@ -1,9 +1,4 @@
-#[derive(Clone, Copy)]
-pub struct Task {
-    pub cost: u32,
-    pub deadline: u32,
-    pub period: u32,
-}
+use analysis::task::Task;
 
 pub const CORES: u32 = 2;
 

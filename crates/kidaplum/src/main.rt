@@ -1,25 +1,28 @@
 use std::io;
 
 mod example;
-mod verdict;
+mod planning;
 
 use example::CORES;
 use example::TASKS;
-use verdict::report;
+use planning::plan;
 
-// Asks both rules about each task of the example, in number order, with regions of length 1.
+// Plans the stored example under the full rule: an order, region lengths, and bounds.
 fn main(rt: LibcRuntime) -> io::Result<()> {
     println!(
         rt,
-        "{} tasks on {CORES} cores, the first in the highest place; every region has length 1.",
+        "{} tasks on {CORES} cores, under the full rule",
         TASKS.len()
     )?;
-    println!(
-        rt,
-        "A task passes if its cost, and an equal part for each core of what its rivals take, fit in its deadline."
-    )?;
-    for k in 0..TASKS.len() {
-        report(&rt, k)?;
+    for (k, t) in TASKS.iter().enumerate() {
+        println!(
+            rt,
+            "  task {}: cost {}, deadline {}, period {}",
+            k + 1,
+            t.cost,
+            t.deadline,
+            t.period
+        )?;
     }
-    Ok(())
+    plan(&rt, CORES, &TASKS)
 }
