@@ -1,1 +1,4 @@
 pub mod OnRows
+pub mod OnWrites
+pub mod Downward
+pub mod OnTables

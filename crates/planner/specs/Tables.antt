@@ -1,7 +1,8 @@
 -- What an open table holds, and what a fixed one holds besides its rule.
 use Prim.Native.Nat.{ℕ, zero, suc}
-use mathlib.Core.Bool.{Bool}
+use mathlib.Core.Bool.{Bool, false}
 use mathlib.Core.List.{List, [], _∷_}
+use lib.ListN.{length, replicate}
 use Rattle.std.specs.Of.Vec.{vec-items}
 use Rattle.analysis.specs.declared.task.Task.{Task}
 use Rattle.planner.specs.declared.open.OpenTable.{OpenTable}
@@ -38,3 +39,7 @@ holds t = fixed (t .rows .cores) (tasks (vec-items (t .rows .items))) (vec-items
 abbrev pub downward : ℕ → List ℕ
 downward zero = []
 downward (suc n) = n ∷ downward n
+
+-- a table as it is fixed
+abbrev pub new-fixed : Open → Fixed
+new-fixed m = fixed (m .cores) (m .tasks) (downward (length (m .tasks))) (replicate (length (m .tasks)) 1) (replicate (length (m .tasks)) 0) false false

@@ -1,0 +1,20 @@
+-- What a fixed table holds, known by other names.
+use Prim.Native.Nat.{ℕ}
+use mathlib.Core.Path.{_≡_, sym, subst}
+use mathlib.Core.Bool.{Bool}
+use mathlib.Core.List.{List}
+use Rattle.analysis.specs.declared.task.Task.{Task}
+use Rattle.analysis.specs.Rivals.{cost-of}
+use Rattle.analysis.specs.Plans.{Named, IsChoice}
+use Rattle.planner.specs.Tables.{Fixed, fixed}
+
+pub choice-as : (ts us : List Task) (ls ks : List ℕ) (n m : ℕ) → us ≡ ts → ks ≡ ls → m ≡ n → IsChoice (cost-of ts) n ls → IsChoice (cost-of us) m ks
+choice-as ts us ls ks n m a b c h =
+    subst (λ (x : ℕ). IsChoice (cost-of us) x ks) (sym c) (subst (λ (x : List ℕ). IsChoice (cost-of us) n x) (sym b) (subst (λ (x : List Task). IsChoice (cost-of x) n ls) (sym a) h))
+
+pub named-as : (q r : List ℕ) (n m : ℕ) → r ≡ q → m ≡ n → Named n q → Named m r
+named-as q r n m a b h = subst (λ (x : ℕ). Named x r) (sym b) (subst (λ (x : List ℕ). Named n x) (sym a) h)
+
+pub fixed-as : {m m′ : ℕ} {ts ts′ : List Task} {q q′ ls ls′ bs bs′ : List ℕ} (p b : Bool) → m′ ≡ m → ts′ ≡ ts → q′ ≡ q → ls′ ≡ ls → bs′ ≡ bs
+  → fixed m′ ts′ q′ ls′ bs′ p b ≡ fixed m ts q ls bs p b
+fixed-as p b c d e f g = (λ i. fixed (c i) (d i) (e i) (f i) (g i) p b)
