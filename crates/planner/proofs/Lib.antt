@@ -2,3 +2,4 @@ pub mod OnRows
 pub mod OnWrites
 pub mod Downward
 pub mod OnTables
+pub mod Upward

@@ -30,3 +30,9 @@ pub take-replicate : {X : Type 0} (n m : ℕ) (x : X) → n ≤ m → take n (re
 take-replicate zero m x h = refl
 take-replicate (suc n) zero x h = absurd (omega arith)
 take-replicate (suc n) (suc m) x h = ap (λ l. x ∷ l) (take-replicate n m x (omega arith))
+
+pub take-set-in : {X : Type 0} (n : ℕ) (xs : List X) (i : ℕ) (x : X) → take n (set xs i x) ≡ set (take n xs) i x
+take-set-in zero xs i x = refl
+take-set-in (suc n) [] i x = refl
+take-set-in (suc n) (y ∷ ys) zero x = refl
+take-set-in (suc n) (y ∷ ys) (suc i) x = ap (λ l. y ∷ l) (take-set-in n ys i x)

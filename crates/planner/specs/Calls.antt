@@ -4,7 +4,7 @@ use Prim.Native.Nat.{ℕ, _-_, _≤_, _<_}
 use mathlib.Core.Path.{_≡_}
 use mathlib.Core.Logic.{_⊎_}
 use mathlib.Core.Bool.{true, false}
-use mathlib.Core.List.{List, [], _∷_, _++_, map, reverse}
+use mathlib.Core.List.{List, [], _∷_, _++_}
 use lib.ListN.{length, set, take, drop, getD, replicate}
 use Rattle.interference.specs.Questions.{Query}
 use Rattle.analysis.specs.declared.task.Task.{Task}
@@ -55,7 +55,8 @@ module _ (m : Open) where
 
 -- Task numbers from 1, the highest place first, as an order from the lowest place up by numbers from 0.
 abbrev pub upward : List ℕ → List ℕ
-upward xs = reverse (map (λ x. x - 1) xs)
+upward [] = []
+upward (x ∷ xs) = upward xs ++ (x - 1) ∷ []
 
 -- a list that names each of n tasks once
 abbrev pub NamesEach : ℕ → List ℕ → Type 0

@@ -8,6 +8,20 @@ use crate::rows::Rows;
 use analysis::task::Task;
 
 impl Rows {
+    // The tasks, in the first places of an array.
+    pub(crate) fn read_tasks(&self) -> [Task; 32]
+        ensures { λ r. ⌜ take (vec-len (now (self .entry) .items)) r ≡ tasks (vec-items (now (self .entry) .items)) ⌝ }
+    {
+        tasks_of(&self.items)
+    }
+
+    // The lengths, in the first places of an array.
+    pub(crate) fn read_lengths(&self) -> [u32; 32]
+        ensures { λ r. ⌜ take (vec-len (now (self .entry) .items)) r ≡ lengths (vec-items (now (self .entry) .items)) ⌝ }
+    {
+        lengths_of(&self.items)
+    }
+
     // Sets each length, and each bound to 0.
     pub(crate) fn set_lengths(&mut self, found: &[u32])
         requires { ⌜ vec-len (now self .items) ≤ length (now found) ⌝ }
@@ -60,7 +74,7 @@ fn write_bounds(rows: &mut [Row], found: &[u32])
 const NO_TASK: Task = Task { cost: 0, deadline: 0, period: 0 };
 
 // The tasks, in the first places.
-pub(crate) fn tasks_of(rows: &[Row]) -> [Task; 32]
+fn tasks_of(rows: &[Row]) -> [Task; 32]
     requires { ⌜ length (now rows) ≤ 32 ⌝ }
     ensures { λ r. ⌜ take (length (now (rows .entry))) r ≡ tasks (now (rows .entry)) ⌝ }
 {
@@ -72,7 +86,7 @@ pub(crate) fn tasks_of(rows: &[Row]) -> [Task; 32]
 }
 
 // The lengths, in the first places.
-pub(crate) fn lengths_of(rows: &[Row]) -> [u32; 32]
+fn lengths_of(rows: &[Row]) -> [u32; 32]
     requires { ⌜ length (now rows) ≤ 32 ⌝ }
     ensures { λ r. ⌜ take (length (now (rows .entry))) r ≡ lengths (now (rows .entry)) ⌝ }
 {
