@@ -3,3 +3,4 @@ pub mod OnWrites
 pub mod Downward
 pub mod OnTables
 pub mod Upward
+pub mod Entries

@@ -1,9 +1,9 @@
 -- What a fixed table holds, known by other names.
-use Prim.Native.Nat.{ℕ, _<_, _≤_}
+use Prim.Native.Nat.{ℕ, _-_, _<_, _≤_}
 use mathlib.Core.Path.{_≡_, sym, ap, subst, _∙_}
 use mathlib.Core.Logic.{⊎-elim}
 use native.Mathlib.Omega.{arith}
-use lib.ListN.{length, getD, set}
+use lib.ListN.{length, getD, set, take}
 use Rattle.std.proofs.shelf.Lists.{getD-set-same, getD-set-other}
 use Rattle.std.proofs.shelf.Tests.{cases-eq}
 use mathlib.Core.Bool.{Bool}
@@ -32,3 +32,7 @@ choice-set ts n ls i f inside a b h k l =
       (omega arith, subst (λ j. getD (set ls i f) k 0 ≤ cost-of ts j) (sym e) (omega arith)))
     (λ e. let s = getD-set-other ls i k f 0 e in let o = h k l in (omega arith, omega arith))
     (cases-eq k i)
+
+-- the first entries of an array, as the code takes them
+pub read-part : {X : Type 0} (k n : ℕ) (xs : List X) {ys : List X} → k ≡ n → take n xs ≡ ys → take (k - 0) xs ≡ ys
+read-part k n xs e h = let z : k - 0 ≡ n = omega arith in rw z h

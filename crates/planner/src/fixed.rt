@@ -9,6 +9,7 @@ use crate::rows::Rows;
 use interference::rule::Rule;
 
 mod calls;
+mod seeks;
 
 // A table joined with a rule: an order from the lowest place up, by task index, a length and a bound for each task,
 // and two marks.
