@@ -36,3 +36,20 @@ module _ (sum : Query → ℕ) (m : ℕ) (ts : List Task) (lens other : List ℕ
 
   pub first-same : (q : List ℕ) → FirstPlan sum m ts q lens → FirstPlan sum m ts q other
   first-same q h = record { order = h .order; lengths = least-same q (h .lengths); first = h .first }
+
+-- the same of bounds
+module _ (sum : Query → ℕ) (m : ℕ) (ts : List Task) (q lens bounds other : List ℕ) (same : Same (length ts) bounds other) where
+  response-same : (k r : ℕ) → response-of sum m ts q lens k bounds r ≡ response-of sum m ts q lens k other r
+  response-same k r =
+      let us = picked-same (above (under q k) k) (upper-rival ts bounds) (upper-rival ts other) (length ts) (λ j l. ap (rival-of (getD ts j no-task) (cost-of ts j)) (same j l)) in
+      let ls = picked-same (below (under q k) k) (lower-rival ts bounds lens) (lower-rival ts other lens) (length ts) (λ j l. ap (rival-of (getD ts j no-task) (getD lens j 0 - 1)) (same j l)) in
+      (λ i. response sum m (cost-of ts k) (getD lens k 0) (us i) (ls i) r)
+
+  solution-same : Solution sum m ts q lens bounds → Solution sum m ts q lens other
+  solution-same h = record {
+    within = λ k l. let w = h .within k l in let e = same k l in (omega arith, omega arith);
+    solves = λ k l. let r = h .solves k l in (r .0, sym (same k l) ∙ r .1, r .2 ∙ response-same k (r .0))
+  }
+
+  pub solved-same : LeastSolution sum m ts q lens bounds → LeastSolution sum m ts q lens other
+  solved-same h = record { solution = solution-same (h .solution); least = λ o s k l. let e = same k l in let r = h .least o s k l in omega arith }

@@ -10,6 +10,8 @@ use interference::rule::Rule;
 
 mod calls;
 mod seeks;
+mod plans;
+mod responses;
 
 // A table joined with a rule: an order from the lowest place up, by task index, a length and a bound for each task,
 // and two marks.

@@ -91,7 +91,7 @@ fn from_below(places: &[u32], count: usize) -> Option<[usize; 32]>
     if is_order(count, &fresh[0..count]) { Some(fresh) } else { None }
 }
 
-fn set_order(order: &mut Vec<usize>, fresh: &[usize])
+pub(super) fn set_order(order: &mut Vec<usize>, fresh: &[usize])
     requires { ⌜ vec-len (now order) ≤ length (now fresh) ⌝ }
     ensures items { λ _. ⌜ vec-items (now (order .exit)) ≡ take (vec-len (now (order .entry))) (now (fresh .entry)) ⌝ }
     ensures len { λ _. ⌜ vec-len (now (order .exit)) ≡ vec-len (now (order .entry)) ⌝ }
