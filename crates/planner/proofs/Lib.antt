@@ -4,3 +4,4 @@ pub mod Downward
 pub mod OnTables
 pub mod Upward
 pub mod Entries
+pub mod OnTurns

@@ -2,3 +2,5 @@ pub mod Refusals
 pub mod Rows
 pub mod Tables
 pub mod Calls
+pub mod History
+pub mod Replaying

@@ -4,3 +4,4 @@ pub mod rows;
 mod writing;
 pub mod open;
 pub mod fixed;
+pub mod replay;
