@@ -25,13 +25,13 @@ module _ (sum : Query → ℕ) (m : ℕ) (ts : List Task) (lens other : List ℕ
   passes-same : (low : List ℕ) (k f : ℕ) → PassesOver sum m ts low k lens f → PassesOver sum m ts low k other f
   passes-same low k f h =
       subst (λ (ls : List Rival). Meets sum m (getD ts k no-task) (uppers ts (finish-limits ts) low k) ls f)
-        (picked-same (below low k) (lower-rival ts (finish-limits ts) lens) (lower-rival ts (finish-limits ts) other) (length ts) (λ j l. ap (λ v. rival-of (getD ts j no-task) (v - 1) (getD (finish-limits ts) j 0)) (same j l))) h
+      (picked-same (below low k) (lower-rival ts (finish-limits ts) lens) (lower-rival ts (finish-limits ts) other) (length ts) (λ j l. ap (λ v. rival-of (getD ts j no-task) (v - 1) (getD (finish-limits ts) j 0)) (same j l))) h
 
   pub least-same : (q : List ℕ) → LeastLengths sum m ts q lens → LeastLengths sum m ts q other
   least-same q h = record {
     choice = λ k l. let c = h .choice k l in let e = same k l in (omega arith, omega arith);
     pass = λ k l. subst (λ f. PassesOver sum m ts (under q k) k other f) (same k l) (passes-same (under q k) k (getD lens k 0) (h .pass k l));
-    least = λ o c p k l. let e = same k l in let r = h .least o c p k l in omega arith
+    least = λ o c p k l. let e = same k l in let r = h .least o c p k l in omega arith;
   }
 
   pub first-same : (q : List ℕ) → FirstPlan sum m ts q lens → FirstPlan sum m ts q other
@@ -48,7 +48,7 @@ module _ (sum : Query → ℕ) (m : ℕ) (ts : List Task) (q lens bounds other :
   solution-same : Solution sum m ts q lens bounds → Solution sum m ts q lens other
   solution-same h = record {
     within = λ k l. let w = h .within k l in let e = same k l in (omega arith, omega arith);
-    solves = λ k l. let r = h .solves k l in (r .0, sym (same k l) ∙ r .1, r .2 ∙ response-same k (r .0))
+    solves = λ k l. let r = h .solves k l in (r .0, sym (same k l) ∙ r .1, r .2 ∙ response-same k (r .0));
   }
 
   pub solved-same : LeastSolution sum m ts q lens bounds → LeastSolution sum m ts q lens other

@@ -51,5 +51,5 @@ numbered-task xs i n r e l h = ap (λ k. getD (tasks xs) k no-task) (sym e) ∙ 
 
 -- and one that was lent and changed is that task with another cost
 pub amended-task : (xs : List Row) (i n c : ℕ) (lent new : Row) → i ≡ n - 1 → i < length xs → lent ≡ getD xs i lent → new .task ≡ with-cost (lent .task) c
-  → new .task ≡ with-cost (task-numbered (tasks xs) n) c
+    → new .task ≡ with-cost (task-numbered (tasks xs) n) c
 amended-task xs i n c lent new e l h k = k ∙ ap (λ t. with-cost t c) (sym (numbered-task xs i n lent e l h))

@@ -21,7 +21,7 @@ pub named-as : (q r : List ℕ) (n m : ℕ) → r ≡ q → m ≡ n → Named n 
 named-as q r n m a b h = subst (λ (x : ℕ). Named x r) (sym b) (subst (λ (x : List ℕ). Named n x) (sym a) h)
 
 pub fixed-as : {m m′ : ℕ} {ts ts′ : List Task} {q q′ ls ls′ bs bs′ : List ℕ} (p b : Bool) → m′ ≡ m → ts′ ≡ ts → q′ ≡ q → ls′ ≡ ls → bs′ ≡ bs
-  → fixed m′ ts′ q′ ls′ bs′ p b ≡ fixed m ts q ls bs p b
+    → fixed m′ ts′ q′ ls′ bs′ p b ≡ fixed m ts q ls bs p b
 fixed-as p b c d e f g = (λ i. fixed (c i) (d i) (e i) (f i) (g i) p b)
 
 -- one length changed to another that fits
@@ -29,7 +29,7 @@ pub choice-set : (ts : List Task) (n : ℕ) (ls : List ℕ) (i f : ℕ) → i < 
 choice-set ts n ls i f inside a b h k l =
     ⊎-elim
     (λ e. let s : getD (set ls i f) k 0 ≡ f = ap (λ j. getD (set ls i f) j 0) e ∙ getD-set-same ls i f 0 inside in
-      (omega arith, subst (λ j. getD (set ls i f) k 0 ≤ cost-of ts j) (sym e) (omega arith)))
+    (omega arith, subst (λ j. getD (set ls i f) k 0 ≤ cost-of ts j) (sym e) (omega arith)))
     (λ e. let s = getD-set-other ls i k f 0 e in let o = h k l in (omega arith, omega arith))
     (cases-eq k i)
 

@@ -37,10 +37,11 @@ module _ {U : Type 0} (meaning : U → Query → ℕ) (Quick : U → Type 0) (u 
   fixed-turn SeekLengths (Err e) d = (d .0, ap (joined u) (d .1))
   fixed-turn SeekPlan (Ok x) d = let p = d .1 in ((d .0, (p .0, p .1, p .2, p .3, as-setup _ (p .4))), cleared true false n _ (p .4) refl)
   fixed-turn SeekPlan (Err e) d = (d .0, ap (joined u) (d .1))
-  fixed-turn SeekBounds (Ok x) d =
-      (((d .0, d .2 .solution), as-setup _ (d .3)),
-       subst (λ (k : Fixed). (k .passed ≡ m .passed) × (k .bounded ≡ true) × (length (k .bounds) ≡ length (k .tasks)) × LeastSolution (meaning u) (k .cores) (k .tasks) (k .order) (k .lengths) (k .bounds))
-         (sym (d .3)) (refl, refl, d .1, d .2))
+  fixed-turn SeekBounds (Ok x) d = (
+    ((d .0, d .2 .solution), as-setup _ (d .3)),
+    subst (λ (k : Fixed). (k .passed ≡ m .passed) × (k .bounded ≡ true) × (length (k .bounds) ≡ length (k .tasks)) × LeastSolution (meaning u) (k .cores) (k .tasks) (k .order) (k .lengths) (k .bounds))
+        (sym (d .3)) (refl, refl, d .1, d .2),
+  )
   fixed-turn SeekBounds (Err e) d = (d .0, ap (joined u) (d .1))
 
   pub quick-turn : {X : Type 0} (c : QuickCall) (r : Result X Refusal) → Quick u → QuickDoes r (meaning u) m c n → Turn meaning Quick (joined u m) (quick-request c) (answered r) (joined u n)

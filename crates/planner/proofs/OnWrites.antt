@@ -19,7 +19,7 @@ part-kept p xs i r l e = map-set p xs i r ∙ ap (set (map p xs) i) (e ∙ sym (
 
 -- a part that is written from the front
 pub part-more : {X : Type 0} (p : Row → X) (xs : List Row) (found : List X) (i : ℕ) (r : Row) (d : X) → i < length xs → i < length found → p r ≡ getD found i d
-  → map p (take i xs) ≡ take i found → map p (take (i + 1) (set xs i r)) ≡ take (i + 1) found
+    → map p (take i xs) ≡ take i found → map p (take (i + 1) (set xs i r)) ≡ take (i + 1) found
 part-more p xs found i r d l k e h =
     ap (map p) (take-more-set xs i r l) ∙ map-push p (take i xs) r ∙ (λ j. h j ++ e j ∷ []) ∙ sym (take-more found i d k)
 

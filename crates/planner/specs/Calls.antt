@@ -99,7 +99,7 @@ module _ (m : Fixed) where
     abbrev pub PlanMakes : Fixed → Type 0
     PlanMakes n = (length (m .tasks) ≤ 8)
         × ((q : List ℕ) × (lens : List ℕ) × (length lens ≡ length (m .tasks)) × FirstPlan sum (m .cores) (m .tasks) q lens
-          × (n ≡ fixed (m .cores) (m .tasks) q lens no-bounds true false))
+        × (n ≡ fixed (m .cores) (m .tasks) q lens no-bounds true false))
 
     abbrev pub BoundsRefuses : ℕ → Type 0
     BoundsRefuses k = (k ≡ 10) × NoSolution sum (m .cores) (m .tasks) (m .order) (m .lengths)

@@ -9,9 +9,9 @@ use crate::rows::Rows;
 use interference::rule::Rule;
 
 mod calls;
-mod seeks;
 mod plans;
 mod responses;
+mod seeks;
 
 // A table joined with a rule: an order from the lowest place up, by task index, a length and a bound for each task,
 // and two marks.

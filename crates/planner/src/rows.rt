@@ -43,5 +43,9 @@ pub(crate) fn index_of(number: u32, count: usize) -> Option<usize>
     ensures { λ r. ⌜ Cases r ((1 ≤ number) × (number ≤ count) → ⊥) (λ i. (1 ≤ number) × (number ≤ count) × (i ≡ number - 1)) ⌝ }
 {
     let number = number as usize;
-    if number >= 1 && number <= count { Some(number - 1) } else { None }
+    if number >= 1 && number <= count {
+        Some(number - 1)
+    } else {
+        None
+    }
 }

@@ -55,7 +55,11 @@ fn write_lengths(rows: &mut [Row], found: &[u32])
     ensures bounds { λ _. ⌜ bounds (now (rows .exit)) ≡ replicate (length (now (rows .entry))) 0 ⌝ }
 {
     for i in 0..rows.len() {
-        rows[i] = Row { task: rows[i].task, length: found[i], bound: 0 };
+        rows[i] = Row {
+            task: rows[i].task,
+            length: found[i],
+            bound: 0,
+        };
     }
 }
 
@@ -71,7 +75,11 @@ fn write_bounds(rows: &mut [Row], found: &[u32])
     }
 }
 
-const NO_TASK: Task = Task { cost: 0, deadline: 0, period: 0 };
+const NO_TASK: Task = Task {
+    cost: 0,
+    deadline: 0,
+    period: 0,
+};
 
 // The tasks, in the first places.
 fn tasks_of(rows: &[Row]) -> [Task; 32]

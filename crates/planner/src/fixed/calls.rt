@@ -24,7 +24,13 @@ impl OpenTable {
         let mut order = self.spare;
         number(&mut order, rows.items.len());
         rows.set_lengths(&[1; 32]);
-        FixedTable { rows, order, rule, passed: false, bounded: false }
+        FixedTable {
+            rows,
+            order,
+            rule,
+            passed: false,
+            bounded: false,
+        }
     }
 }
 
@@ -88,7 +94,11 @@ fn from_below(places: &[u32], count: usize) -> Option<[usize; 32]>
         }
         fresh[p] = number as usize - 1;
     }
-    if is_order(count, &fresh[0..count]) { Some(fresh) } else { None }
+    if is_order(count, &fresh[0..count]) {
+        Some(fresh)
+    } else {
+        None
+    }
 }
 
 pub(super) fn set_order(order: &mut Vec<usize>, fresh: &[usize])
@@ -116,7 +126,10 @@ impl<R: Rule + Drop> FixedTable<R> {
     {
         let mut spare = self.order;
         spare.clear();
-        OpenTable { rows: self.rows, spare }
+        OpenTable {
+            rows: self.rows,
+            spare,
+        }
     }
 }
 

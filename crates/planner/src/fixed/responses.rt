@@ -34,7 +34,13 @@ impl<R: Rule> FixedTable<R> {
         let tasks = self.rows.read_tasks();
         let lens = self.rows.read_lengths();
         let count = self.rows.items.len();
-        bounds_in(&self.rule, self.rows.cores, &tasks[0..count], &self.order, &lens[0..count])
+        bounds_in(
+            &self.rule,
+            self.rows.cores,
+            &tasks[0..count],
+            &self.order,
+            &lens[0..count],
+        )
     }
 
     // Sets bounds that were found, or refuses where there are none.
@@ -54,7 +60,13 @@ impl<R: Rule> FixedTable<R> {
 }
 
 // The search on what a table holds.
-fn bounds_in<'a, R: Rule>(rule: &R, cores: u32, tasks: &'a [Task], order: &'a [usize], lens: &'a [u32]) -> Option<[u32; 32]>
+fn bounds_in<'a, R: Rule>(
+    rule: &R,
+    cores: u32,
+    tasks: &'a [Task],
+    order: &'a [usize],
+    lens: &'a [u32],
+) -> Option<[u32; 32]>
     requires cores { ⌜ 1 ≤ cores ⌝ ∗ ⌜ cores ≤ 16 ⌝ }
     requires few { ⌜ length (now tasks) ≤ 32 ⌝ }
     requires limits { ⌜ TasksWithinLimits (now tasks) ⌝ }
@@ -67,5 +79,11 @@ fn bounds_in<'a, R: Rule>(rule: &R, cores: u32, tasks: &'a [Task], order: &'a [u
 {
     let set = TaskSet { cores, tasks };
     let ordered = Ordered { set, order };
-    search_bounds(rule, &Arranged { ordered, lengths: lens })
+    search_bounds(
+        rule,
+        &Arranged {
+            ordered,
+            lengths: lens,
+        },
+    )
 }

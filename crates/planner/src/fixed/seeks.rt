@@ -75,7 +75,12 @@ impl<S: SteadyRule> FixedTable<S> {
 }
 
 // The search on what a table holds.
-fn lengths_in<'a, R: Rule>(rule: &R, cores: u32, tasks: &'a [Task], order: &'a [usize]) -> Option<[u32; 32]>
+fn lengths_in<'a, R: Rule>(
+    rule: &R,
+    cores: u32,
+    tasks: &'a [Task],
+    order: &'a [usize],
+) -> Option<[u32; 32]>
     requires cores { ⌜ 1 ≤ cores ⌝ ∗ ⌜ cores ≤ 16 ⌝ }
     requires few { ⌜ length (now tasks) ≤ 32 ⌝ }
     requires limits { ⌜ TasksWithinLimits (now tasks) ⌝ }
@@ -89,7 +94,12 @@ fn lengths_in<'a, R: Rule>(rule: &R, cores: u32, tasks: &'a [Task], order: &'a [
 }
 
 // The same by halving.
-fn quick_lengths_in<'a, S: SteadyRule>(rule: &S, cores: u32, tasks: &'a [Task], order: &'a [usize]) -> Option<[u32; 32]>
+fn quick_lengths_in<'a, S: SteadyRule>(
+    rule: &S,
+    cores: u32,
+    tasks: &'a [Task],
+    order: &'a [usize],
+) -> Option<[u32; 32]>
     requires cores { ⌜ 1 ≤ cores ⌝ ∗ ⌜ cores ≤ 16 ⌝ }
     requires few { ⌜ length (now tasks) ≤ 32 ⌝ }
     requires limits { ⌜ TasksWithinLimits (now tasks) ⌝ }

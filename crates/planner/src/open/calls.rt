@@ -15,6 +15,7 @@ use std::alloc::AllocError;
 use std::alloc::Global;
 
 const MOST_CORES: u32 = 16;
+
 const MOST_TASKS: usize = 32;
 
 impl OpenTable {
@@ -24,7 +25,10 @@ impl OpenTable {
     {
         let items = Vec::with_capacity(heap, MOST_TASKS)?;
         let spare = Vec::with_capacity(heap, MOST_TASKS)?;
-        Ok(OpenTable { rows: Rows { cores: 1, items }, spare })
+        Ok(OpenTable {
+            rows: Rows { cores: 1, items },
+            spare,
+        })
     }
 
     // Sets the core count.
@@ -48,7 +52,11 @@ impl OpenTable {
         if !is_within_limits(&task) {
             return Err(Refusal::Limits);
         }
-        self.rows.items.push_reserved(Row { task, length: 1, bound: 0 });
+        self.rows.items.push_reserved(Row {
+            task,
+            length: 1,
+            bound: 0,
+        });
         Ok(())
     }
 
@@ -71,7 +79,11 @@ impl OpenTable {
             return Err(Refusal::NoSuchTask);
         };
         let old = self.rows.items[i].task;
-        let new = Task { cost, deadline: old.deadline, period: old.period };
+        let new = Task {
+            cost,
+            deadline: old.deadline,
+            period: old.period,
+        };
         if !is_within_limits(&new) {
             return Err(Refusal::Limits);
         }

@@ -61,7 +61,10 @@ fn on_steady<S: SteadyRule>(t: &mut FixedTable<S>, call: QuickCall) -> Result<()
 }
 
 // One call on a table of any kind.
-fn turn<R: Rule + Drop, S: SteadyRule + Drop>(table: Table<R, S>, call: Call<R, S>) -> (Table<R, S>, Outcome)
+fn turn<R: Rule + Drop, S: SteadyRule + Drop>(
+    table: Table<R, S>,
+    call: Call<R, S>,
+) -> (Table<R, S>, Outcome)
     ensures { λ r. ⌜ Turn (sum-under (R·Rule .meaning) (S·Rule .meaning)) Steadily (state table) (request call) (came (r .1)) (state (r .0)) ⌝ }
 {
     match (table, call) {

@@ -14,9 +14,11 @@ loop-i-again c =
     let v = c .loop-i .inv in
     let old = getD xs i blank in
     let r : Row = record { task = old .task; length = old .length; bound = getD found i 0 } in
-    let inside : i < length xs = omega arith in
-    (part-kept (λ x. x .task) xs i r inside refl ∙ v .0, part-kept (λ x. x .length) xs i r inside refl ∙ v .1,
-     part-more (λ x. x .bound) xs found i r 0 inside (omega arith) refl (v .2))
+    let inside : i < length xs = omega arith in (
+      part-kept (λ x. x .task) xs i r inside refl ∙ v .0,
+      part-kept (λ x. x .length) xs i r inside refl ∙ v .1,
+      part-more (λ x. x .bound) xs found i r 0 inside (omega arith) refl (v .2),
+    )
 
 pub returns : need.returns
 returns c =

@@ -16,10 +16,11 @@ loop-i-again c =
     let n = length (c .args .rows .now) in
     let v = c .loop-i .inv in
     let r : Row = record { task = (getD xs i blank) .task; length = getD found i 0; bound = 0 } in
-    let inside : i < length xs = omega arith in
-    (part-kept (λ x. x .task) xs i r inside refl ∙ v .0,
-     part-more (λ x. x .length) xs found i r 0 inside (omega arith) refl (v .1),
-     part-more (λ x. x .bound) xs (replicate n 0) i r 0 inside (simp length-replicate (omega arith)) (sym (getD-replicate n i 0 0 (omega arith))) (v .2))
+    let inside : i < length xs = omega arith in (
+      part-kept (λ x. x .task) xs i r inside refl ∙ v .0,
+      part-more (λ x. x .length) xs found i r 0 inside (omega arith) refl (v .1),
+      part-more (λ x. x .bound) xs (replicate n 0) i r 0 inside (simp length-replicate (omega arith)) (sym (getD-replicate n i 0 0 (omega arith))) (v .2),
+    )
 
 pub returns : need.returns
 returns c =

@@ -41,4 +41,4 @@ returns g c =
     let r = c .bounds-in .result in
     let given = take (c .len-count .result - 0) (c .read-lengths-lens .result) in
     subst (λ (l : List ℕ). Cases r (NoSolution sum (s .rows .cores) (tasks xs) (vec-items (s .order)) l) (λ bs. LeastSolution sum (s .rows .cores) (tasks xs) (vec-items (s .order)) l bs)) ls
-      (subst₂ (λ (x : List Task) (q : List ℕ). Cases r (NoSolution sum (s .rows .cores) x q given) (λ bs. LeastSolution sum (s .rows .cores) x q given bs)) ts (c .deref .ensures .value) (c .bounds-in .ensures))
+    (subst₂ (λ (x : List Task) (q : List ℕ). Cases r (NoSolution sum (s .rows .cores) x q given) (λ bs. LeastSolution sum (s .rows .cores) x q given bs)) ts (c .deref .ensures .value) (c .bounds-in .ensures))

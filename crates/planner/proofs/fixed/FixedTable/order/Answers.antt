@@ -26,10 +26,19 @@ ghost-self g c =
     let o = c .set-order .ensures in
     let f = c .in-Some .ensures tt in
     let count : vec-len (s .order) ≡ c .len-count .result = omega (arith, s .whole, c .len-count .ensures) in
-    let order : vec-items (c .set-order .last .order) ≡ upward (c .args .places .now) = o .items ∙ ap (λ k. take k (c .in-Some .fresh)) count ∙ f .2 in
-    (omega (arith, o .len, w .len, s .whole), (omega (arith, o .room, s .roomy), (
-      named-as (upward (c .args .places .now)) _ (c .len-count .result) _ order (w .len ∙ sym (c .len-count .ensures)) (f .1 .1 .1), (
-      choice-as (tasks xs) _ (lengths xs) _ (vec-len (s .rows .items)) _ (w .tasks) (w .lengths ∙ c .read-lengths-lens .ensures) (w .len) (s .choice), tt))))
+    let order : vec-items (c .set-order .last .order) ≡ upward (c .args .places .now) = o .items ∙ ap (λ k. take k (c .in-Some .fresh)) count ∙ f .2 in (
+      omega (arith, o .len, w .len, s .whole),
+      (
+        omega (arith, o .room, s .roomy),
+        (
+          named-as (upward (c .args .places .now)) _ (c .len-count .result) _ order (w .len ∙ sym (c .len-count .ensures)) (f .1 .1 .1),
+          (
+            choice-as (tasks xs) _ (lengths xs) _ (vec-len (s .rows .items)) _ (w .tasks) (w .lengths ∙ c .read-lengths-lens .ensures) (w .len) (s .choice),
+            tt,
+          ),
+        ),
+      ),
+    )
 
 pub returns : need.returns
 returns g c =
@@ -43,6 +52,8 @@ returns g c =
     let order : vec-items (c .set-order .last .order) ≡ upward (c .args .places .now) = o .items ∙ ap (λ k. take k (c .in-Some .fresh)) count ∙ f .2 in
     record {
       rule = refl;
-      call = (subst (λ (k : ℕ). NamesEach k (c .args .places .now)) (c .len-count .ensures ∙ n) (f .1),
-        fixed-as false false (w .cores) (w .tasks) order (w .lengths ∙ c .read-lengths-lens .ensures) (w .bounds ∙ ap (λ k. replicate k 0) n));
+      call = (
+        subst (λ (k : ℕ). NamesEach k (c .args .places .now)) (c .len-count .ensures ∙ n) (f .1),
+        fixed-as false false (w .cores) (w .tasks) order (w .lengths ∙ c .read-lengths-lens .ensures) (w .bounds ∙ ap (λ k. replicate k 0) n),
+      );
     }

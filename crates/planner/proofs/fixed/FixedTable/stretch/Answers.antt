@@ -53,10 +53,20 @@ ghost-self g c =
     let row = c .index .result .now in
     let ok = when-yes (c .is-length .result) ((1 ≤ f) × (f ≤ row .task .cost)) ((1 ≤ f) × (f ≤ row .task .cost) → ⊥) (c .if-not-is-length .left) (c .is-length .ensures) in
     let lens = stored (vec-len (s .rows .items)) (c .read-lengths-lens .result) (lengths xs) _ i f (w .lengths) (c .read-lengths-lens .ensures) in
-    let cost : f ≤ cost-of (tasks xs) i = subst (λ (t : Task). f ≤ t .cost) (sym (task-at xs i row inside ∙ ap (λ x. x .task) (sym (c .index .ensures)))) (ok .1) in
-    (omega (arith, w .len, s .whole), (s .roomy, (named-as _ _ _ _ refl (w .len) (s .named), (
-      choice-as (tasks xs) _ (set (lengths xs) i f) _ (vec-len (s .rows .items)) _ (w .tasks) lens (w .len)
-        (choice-set (tasks xs) (vec-len (s .rows .items)) (lengths xs) i f (omega (arith, length-map xs (λ r. r .length))) (ok .0) cost (s .choice)), tt))))
+    let cost : f ≤ cost-of (tasks xs) i = subst (λ (t : Task). f ≤ t .cost) (sym (task-at xs i row inside ∙ ap (λ x. x .task) (sym (c .index .ensures)))) (ok .1) in (
+      omega (arith, w .len, s .whole),
+      (
+        s .roomy,
+        (
+          named-as _ _ _ _ refl (w .len) (s .named),
+          (
+            choice-as (tasks xs) _ (set (lengths xs) i f) _ (vec-len (s .rows .items)) _ (w .tasks) lens (w .len)
+                (choice-set (tasks xs) (vec-len (s .rows .items)) (lengths xs) i f (omega (arith, length-map xs (λ r. r .length))) (ok .0) cost (s .choice)),
+            tt,
+          ),
+        ),
+      ),
+    )
 
 pub returns : need.returns
 returns g c =
@@ -76,6 +86,9 @@ returns g c =
     let lens = stored (vec-len (s .rows .items)) (c .read-lengths-lens .result) (lengths xs) _ i f (w .lengths) (c .read-lengths-lens .ensures) in
     record {
       rule = refl;
-      call = ((e .0, omega (arith, e .1, c .len .ensures)), subst (λ (t : Task). (1 ≤ f) × (f ≤ t .cost)) (sym is) ok,
-        fixed-as false false (w .cores) (w .tasks) refl (lens ∙ ap (λ k. set (lengths xs) k f) (e .2)) (w .bounds ∙ ap (λ k. replicate k 0) count));
+      call = (
+        (e .0, omega (arith, e .1, c .len .ensures)),
+        subst (λ (t : Task). (1 ≤ f) × (f ≤ t .cost)) (sym is) ok,
+        fixed-as false false (w .cores) (w .tasks) refl (lens ∙ ap (λ k. set (lengths xs) k f) (e .2)) (w .bounds ∙ ap (λ k. replicate k 0) count),
+      );
     }

@@ -19,9 +19,19 @@ pub ghost-self : need.ghost-self
 ghost-self g c =
     let s = c .args .self .now in
     let xs = s .rows .items .items in
-    let w = c .set-bounds .ensures in
-    (omega (arith, w .len, s .whole), (s .roomy, (named-as _ _ _ _ refl (w .len) (s .named), (
-      choice-as (tasks xs) _ (lengths xs) _ (vec-len (s .rows .items)) _ (w .tasks) (w .lengths) (w .len) (s .choice), tt))))
+    let w = c .set-bounds .ensures in (
+      omega (arith, w .len, s .whole),
+      (
+        s .roomy,
+        (
+          named-as _ _ _ _ refl (w .len) (s .named),
+          (
+            choice-as (tasks xs) _ (lengths xs) _ (vec-len (s .rows .items)) _ (w .tasks) (w .lengths) (w .len) (s .choice),
+            tt,
+          ),
+        ),
+      ),
+    )
 
 pub returns : need.returns
 returns g c =
@@ -37,6 +47,10 @@ returns g c =
     let least = solved-same sum (s .rows .cores) (tasks xs) q (lengths xs) bs (take (length (tasks xs)) bs) (λ j l. sym (getD-take (length (tasks xs)) bs j 0 l)) h in
     record {
       rule = refl;
-      call = (take (length (tasks xs)) bs, omega (arith, length-take (length (tasks xs)) bs, s .rows .few), least,
-        fixed-as (s .passed) true (w .cores) (w .tasks) refl (w .lengths) (w .bounds ∙ ap (λ k. take k bs) n));
+      call = (
+        take (length (tasks xs)) bs,
+        omega (arith, length-take (length (tasks xs)) bs, s .rows .few),
+        least,
+        fixed-as (s .passed) true (w .cores) (w .tasks) refl (w .lengths) (w .bounds ∙ ap (λ k. take k bs) n),
+      );
     }

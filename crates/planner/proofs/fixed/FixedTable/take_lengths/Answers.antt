@@ -23,9 +23,19 @@ ghost-self g c =
     let n : vec-len (s .rows .items) ≡ length (tasks xs) = omega (arith, length-map xs (λ r. r .task), s .rows .items .ok .0) in
     let lens = c .in-Some .lens in
     let h = subst (λ (o : Option (List ℕ)). Cases o (NoLengths (g .R·Rule .meaning (s .rule)) (s .rows .cores) (tasks xs) (vec-items (s .order))) (λ ls. LeastLengths (g .R·Rule .meaning (s .rule)) (s .rows .cores) (tasks xs) (vec-items (s .order)) ls)) (c .in-Some .is) (c .pre) in
-    let least = least-same (g .R·Rule .meaning (s .rule)) (s .rows .cores) (tasks xs) lens (take (length (tasks xs)) lens) (λ j l. sym (getD-take (length (tasks xs)) lens j 0 l)) (vec-items (s .order)) h in
-    (omega (arith, w .len, s .whole), (s .roomy, (named-as _ _ _ _ refl (w .len) (s .named), (
-      choice-as (tasks xs) _ (take (length (tasks xs)) lens) _ (length (tasks xs)) _ (w .tasks) (w .lengths ∙ ap (λ k. take k lens) n) (w .len ∙ n) (least .choice), tt))))
+    let least = least-same (g .R·Rule .meaning (s .rule)) (s .rows .cores) (tasks xs) lens (take (length (tasks xs)) lens) (λ j l. sym (getD-take (length (tasks xs)) lens j 0 l)) (vec-items (s .order)) h in (
+      omega (arith, w .len, s .whole),
+      (
+        s .roomy,
+        (
+          named-as _ _ _ _ refl (w .len) (s .named),
+          (
+            choice-as (tasks xs) _ (take (length (tasks xs)) lens) _ (length (tasks xs)) _ (w .tasks) (w .lengths ∙ ap (λ k. take k lens) n) (w .len ∙ n) (least .choice),
+            tt,
+          ),
+        ),
+      ),
+    )
 
 pub returns : need.returns
 returns g c =
@@ -39,6 +49,10 @@ returns g c =
     let least = least-same (g .R·Rule .meaning (s .rule)) (s .rows .cores) (tasks xs) lens (take (length (tasks xs)) lens) (λ j l. sym (getD-take (length (tasks xs)) lens j 0 l)) (vec-items (s .order)) h in
     record {
       rule = refl;
-      call = (take (length (tasks xs)) lens, omega (arith, length-take (length (tasks xs)) lens, s .rows .few), least,
-        fixed-as true false (w .cores) (w .tasks) refl (w .lengths ∙ ap (λ k. take k lens) n) (w .bounds ∙ ap (λ k. replicate k 0) n));
+      call = (
+        take (length (tasks xs)) lens,
+        omega (arith, length-take (length (tasks xs)) lens, s .rows .few),
+        least,
+        fixed-as true false (w .cores) (w .tasks) refl (w .lengths ∙ ap (λ k. take k lens) n) (w .bounds ∙ ap (λ k. replicate k 0) n),
+      );
     }

@@ -29,10 +29,19 @@ ghost-self g c =
     let plan = c .in-Some .plan in
     let sum = g .R·Rule .meaning (s .rule) in
     let h = subst (λ (x : Option Plan). Cases x (NoPlan sum (s .rows .cores) (tasks xs)) (λ p. FirstPlan sum (s .rows .cores) (tasks xs) (take (length (tasks xs)) (p .order)) (p .lengths))) (c .in-Some .is) (c .pre .found) in
-    let first = first-same sum (s .rows .cores) (tasks xs) (plan .lengths) (take (length (tasks xs)) (plan .lengths)) (λ j l. sym (getD-take (length (tasks xs)) (plan .lengths) j 0 l)) (take (length (tasks xs)) (plan .order)) h in
-    (omega (arith, o .len, w .len, s .whole), (omega (arith, o .room, s .roomy), (
-      named-as (take (length (tasks xs)) (plan .order)) _ (length (tasks xs)) _ (o .items ∙ ap (λ k. take k (plan .order)) q) (w .len ∙ n) (first .order .1), (
-      choice-as (tasks xs) _ (take (length (tasks xs)) (plan .lengths)) _ (length (tasks xs)) _ (w .tasks) (w .lengths ∙ ap (λ k. take k (plan .lengths)) n) (w .len ∙ n) (first .lengths .choice), tt))))
+    let first = first-same sum (s .rows .cores) (tasks xs) (plan .lengths) (take (length (tasks xs)) (plan .lengths)) (λ j l. sym (getD-take (length (tasks xs)) (plan .lengths) j 0 l)) (take (length (tasks xs)) (plan .order)) h in (
+      omega (arith, o .len, w .len, s .whole),
+      (
+        omega (arith, o .room, s .roomy),
+        (
+          named-as (take (length (tasks xs)) (plan .order)) _ (length (tasks xs)) _ (o .items ∙ ap (λ k. take k (plan .order)) q) (w .len ∙ n) (first .order .1),
+          (
+            choice-as (tasks xs) _ (take (length (tasks xs)) (plan .lengths)) _ (length (tasks xs)) _ (w .tasks) (w .lengths ∙ ap (λ k. take k (plan .lengths)) n) (w .len ∙ n) (first .lengths .choice),
+            tt,
+          ),
+        ),
+      ),
+    )
 
 pub returns : need.returns
 returns g c =
@@ -49,8 +58,16 @@ returns g c =
     let first = first-same sum (s .rows .cores) (tasks xs) (plan .lengths) (take (length (tasks xs)) (plan .lengths)) (λ j l. sym (getD-take (length (tasks xs)) (plan .lengths) j 0 l)) (take (length (tasks xs)) (plan .order)) h in
     record {
       rule = refl;
-      call = (c .pre .small, (take (length (tasks xs)) (plan .order), take (length (tasks xs)) (plan .lengths), omega (arith, length-take (length (tasks xs)) (plan .lengths), s .rows .few), first,
-        fixed-as true false (w .cores) (w .tasks) (o .items ∙ ap (λ k. take k (plan .order)) q) (w .lengths ∙ ap (λ k. take k (plan .lengths)) n) (w .bounds ∙ ap (λ k. replicate k 0) n)));
+      call = (
+        c .pre .small,
+        (
+          take (length (tasks xs)) (plan .order),
+          take (length (tasks xs)) (plan .lengths),
+          omega (arith, length-take (length (tasks xs)) (plan .lengths), s .rows .few),
+          first,
+          fixed-as true false (w .cores) (w .tasks) (o .items ∙ ap (λ k. take k (plan .order)) q) (w .lengths ∙ ap (λ k. take k (plan .lengths)) n) (w .bounds ∙ ap (λ k. replicate k 0) n),
+        ),
+      );
     }
 
 pub set-order-requires : need.set-order-requires

@@ -27,7 +27,8 @@ loop-p-again c =
     let v = c .loop-p .inv in
     let i = n - 1 - p in
     let x = getD xs i 0 in
-    let e : n - (p + 1) ≡ i = omega arith in
-    (simp length-set (v .0),
-     take-more-set (c .loop-p .fresh) p (x - 1) (omega arith) ∙ ap (λ l. l ++ (x - 1) ∷ []) (v .1) ∙ sym (upward-more xs i (n - p) (omega arith) (omega arith)) ∙ ap (λ k. upward (drop k xs)) (sym e),
-     λ j a b. ⊎-elim (λ same. subst (λ k. 1 ≤ getD xs k 0) (sym same) (omega arith)) (λ other. v .2 j (omega arith) b) (cases-eq j i))
+    let e : n - (p + 1) ≡ i = omega arith in (
+      simp length-set (v .0),
+      take-more-set (c .loop-p .fresh) p (x - 1) (omega arith) ∙ ap (λ l. l ++ (x - 1) ∷ []) (v .1) ∙ sym (upward-more xs i (n - p) (omega arith) (omega arith)) ∙ ap (λ k. upward (drop k xs)) (sym e),
+      λ j a b. ⊎-elim (λ same. subst (λ k. 1 ≤ getD xs k 0) (sym same) (omega arith)) (λ other. v .2 j (omega arith) b) (cases-eq j i),
+    )

@@ -16,6 +16,8 @@ loop-i-holds c =
 pub loop-i-again : need.loop-i-again
 loop-i-again c =
     let v = c .loop-i .inv in
-    let i = c .loop-i .i in
-    (ap (λ l. l ++ downward (i - 1)) (c .push-reserved .ensures .items) ∙ downward-more (vec-items (c .loop-i .order)) i (omega arith) ∙ v .0,
-     omega (arith, c .push-reserved .ensures .len), omega (arith, c .push-reserved .ensures .capacity))
+    let i = c .loop-i .i in (
+      ap (λ l. l ++ downward (i - 1)) (c .push-reserved .ensures .items) ∙ downward-more (vec-items (c .loop-i .order)) i (omega arith) ∙ v .0,
+      omega (arith, c .push-reserved .ensures .len),
+      omega (arith, c .push-reserved .ensures .capacity),
+    )

@@ -45,9 +45,25 @@ ghost-self c =
     let is : task-numbered (tasks xs) n ≡ row .task = numbered-task xs i n row (e .2) inside (c .index .ensures) in
     let w = when-yes (c .is-within-limits .result) (TaskWithinLimits new) (TaskWithinLimits new → ⊥) (c .if-not-is-within-limits .left) (c .is-within-limits .ensures) in
     let k : c .change .last .row .task ≡ new =
-          amended-task xs i n (c .args .cost) (c .index-mut .result .now) (c .change .last .row) (e .2) inside (c .index-mut .ensures .value) (c .change .ensures .task) ∙ ap (λ t. with-cost t (c .args .cost)) is in
-    ((s .rows .some, (s .rows .most, (s .rows .few, (s .rows .room, (
-      within-as _ _ (map-set (λ r. r .task) xs i (c .change .last .row)) (within-set (tasks xs) i (c .change .last .row .task) (s .rows .limits) (subst (λ (t : Task). TaskWithinLimits t) (sym k) w)), tt))))), (s .none, (s .sparing, tt)))
+    amended-task xs i n (c .args .cost) (c .index-mut .result .now) (c .change .last .row) (e .2) inside (c .index-mut .ensures .value) (c .change .ensures .task) ∙ ap (λ t. with-cost t (c .args .cost)) is in (
+      (
+        s .rows .some,
+        (
+          s .rows .most,
+          (
+            s .rows .few,
+            (
+              s .rows .room,
+              (
+                within-as _ _ (map-set (λ r. r .task) xs i (c .change .last .row)) (within-set (tasks xs) i (c .change .last .row .task) (s .rows .limits) (subst (λ (t : Task). TaskWithinLimits t) (sym k) w)),
+                tt,
+              ),
+            ),
+          ),
+        ),
+      ),
+      (s .none, (s .sparing, tt)),
+    )
 
 pub returns : need.returns
 returns c =
@@ -62,7 +78,9 @@ returns c =
     let new = with-cost (row .task) (c .args .cost) in
     let is : task-numbered (tasks xs) n ≡ row .task = numbered-task xs i n row (e .2) inside (c .index .ensures) in
     let w = when-yes (c .is-within-limits .result) (TaskWithinLimits new) (TaskWithinLimits new → ⊥) (c .if-not-is-within-limits .left) (c .is-within-limits .ensures) in
-    let k = amended-task xs i n (c .args .cost) (c .index-mut .result .now) (c .change .last .row) (e .2) inside (c .index-mut .ensures .value) (c .change .ensures .task) in
-    ((e .0, omega (arith, e .1, h, s .rows .items .ok .0, c .len .ensures)), subst (λ (t : Task). TaskWithinLimits (with-cost t (c .args .cost))) (sym is) w,
-     ap (opened (s .rows .cores)) (map-set (λ r. r .task) xs i (c .change .last .row) ∙ ap (set (tasks xs) i) k
-       ∙ ap (λ j. set (tasks xs) j (with-cost (task-numbered (tasks xs) n) (c .args .cost))) (e .2)))
+    let k = amended-task xs i n (c .args .cost) (c .index-mut .result .now) (c .change .last .row) (e .2) inside (c .index-mut .ensures .value) (c .change .ensures .task) in (
+      (e .0, omega (arith, e .1, h, s .rows .items .ok .0, c .len .ensures)),
+      subst (λ (t : Task). TaskWithinLimits (with-cost t (c .args .cost))) (sym is) w,
+      ap (opened (s .rows .cores)) (map-set (λ r. r .task) xs i (c .change .last .row) ∙ ap (set (tasks xs) i) k
+          ∙ ap (λ j. set (tasks xs) j (with-cost (task-numbered (tasks xs) n) (c .args .cost))) (e .2)),
+    )

@@ -20,9 +20,14 @@ returns-then-len-ge-MOST-TASKS c =
 pub returns-then-not-is-within-limits : need.returns-then-not-is-within-limits
 returns-then-not-is-within-limits c =
     let xs = c .args .self .now .rows .items .items in
-    let t = c .args .task in
-    (inr (refl, omega (arith, length-map xs (λ r. r .task), c .args .self .now .rows .items .ok .0),
-      when-no (c .is-within-limits .result) (TaskWithinLimits t) (TaskWithinLimits t → ⊥) (c .if-not-is-within-limits .taken) (c .is-within-limits .ensures)), refl)
+    let t = c .args .task in (
+      inr (
+        refl,
+        omega (arith, length-map xs (λ r. r .task), c .args .self .now .rows .items .ok .0),
+        when-no (c .is-within-limits .result) (TaskWithinLimits t) (TaskWithinLimits t → ⊥) (c .if-not-is-within-limits .taken) (c .is-within-limits .ensures),
+      ),
+      refl,
+    )
 
 pub ghost-self : need.ghost-self
 ghost-self c =
@@ -30,9 +35,25 @@ ghost-self c =
     let xs = s .rows .items .items in
     let t = c .args .task in
     let r : Row = record { task = t; length = 1; bound = 0 } in
-    let w = when-yes (c .is-within-limits .result) (TaskWithinLimits t) (TaskWithinLimits t → ⊥) (c .if-not-is-within-limits .left) (c .is-within-limits .ensures) in
-    ((s .rows .some, (s .rows .most, (omega (arith, c .push-reserved .ensures .len), (omega (arith, c .push-reserved .ensures .capacity), (
-      within-as _ _ (tasks-push xs _ r (c .push-reserved .ensures .items)) (within-push (tasks xs) t (s .rows .limits) w), tt))))), (s .none, (s .sparing, tt)))
+    let w = when-yes (c .is-within-limits .result) (TaskWithinLimits t) (TaskWithinLimits t → ⊥) (c .if-not-is-within-limits .left) (c .is-within-limits .ensures) in (
+      (
+        s .rows .some,
+        (
+          s .rows .most,
+          (
+            omega (arith, c .push-reserved .ensures .len),
+            (
+              omega (arith, c .push-reserved .ensures .capacity),
+              (
+                within-as _ _ (tasks-push xs _ r (c .push-reserved .ensures .items)) (within-push (tasks xs) t (s .rows .limits) w),
+                tt,
+              ),
+            ),
+          ),
+        ),
+      ),
+      (s .none, (s .sparing, tt)),
+    )
 
 pub returns : need.returns
 returns c =

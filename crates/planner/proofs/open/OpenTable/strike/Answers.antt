@@ -19,9 +19,25 @@ pub ghost-self : need.ghost-self
 ghost-self c =
     let s = c .args .self .now in
     let xs = s .rows .items .items in
-    let i = c .in-Some .i in
-    ((s .rows .some, (s .rows .most, (omega (arith, c .remove .ensures .len), (omega (arith, c .remove .ensures .capacity), (
-      within-as _ _ (ap tasks (c .remove .ensures .items) ∙ tasks-removed xs i (suc i)) (within-removed (tasks xs) i (suc i) (s .rows .limits)), tt))))), (s .none, (s .sparing, tt)))
+    let i = c .in-Some .i in (
+      (
+        s .rows .some,
+        (
+          s .rows .most,
+          (
+            omega (arith, c .remove .ensures .len),
+            (
+              omega (arith, c .remove .ensures .capacity),
+              (
+                within-as _ _ (ap tasks (c .remove .ensures .items) ∙ tasks-removed xs i (suc i)) (within-removed (tasks xs) i (suc i) (s .rows .limits)),
+                tt,
+              ),
+            ),
+          ),
+        ),
+      ),
+      (s .none, (s .sparing, tt)),
+    )
 
 pub returns : need.returns
 returns c =
@@ -32,7 +48,8 @@ returns c =
     let e = c .in-Some .ensures tt in
     let h = length-map xs (λ r. r .task) in
     let low : i ≡ n - 1 = e .2 in
-    let high : suc i ≡ n = omega (arith, e .0, e .2) in
-    ((e .0, omega (arith, e .1, h, s .rows .items .ok .0, c .len .ensures)),
-     ap (opened (s .rows .cores)) (ap tasks (c .remove .ensures .items) ∙ tasks-removed xs i (suc i)
-       ∙ ap (λ m. take m (tasks xs) ++ drop (suc i) (tasks xs)) low ∙ ap (λ m. take (n - 1) (tasks xs) ++ drop m (tasks xs)) high))
+    let high : suc i ≡ n = omega (arith, e .0, e .2) in (
+      (e .0, omega (arith, e .1, h, s .rows .items .ok .0, c .len .ensures)),
+      ap (opened (s .rows .cores)) (ap tasks (c .remove .ensures .items) ∙ tasks-removed xs i (suc i)
+          ∙ ap (λ m. take m (tasks xs) ++ drop (suc i) (tasks xs)) low ∙ ap (λ m. take (n - 1) (tasks xs) ++ drop m (tasks xs)) high),
+    )

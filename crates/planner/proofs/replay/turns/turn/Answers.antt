@@ -16,9 +16,9 @@ returns-in-Fixed-Fixed g c =
     let after : State (Under (g .R .Denot) (g .S .Denot)) = joined (plainly (r .last .t .rule)) (holds (r .last .t)) in
     let h = fixed-turn sum Steadily (plainly (t .rule)) (holds t) (holds (r .last .t)) k (r .result) (r .ensures .call) in
     let there = subst₂ (λ (o : Came) (s : State (Under (g .R .Denot) (g .S .Denot))). Turn sum Steadily (joined (plainly (t .rule)) (holds t)) (fixed-request k) o s)
-          (sym (c .outcome-in-Fixed-Fixed .ensures)) (ap (λ q. joined (plainly q) (holds (r .last .t))) (sym (r .ensures .rule))) h in
+    (sym (c .outcome-in-Fixed-Fixed .ensures)) (ap (λ q. joined (plainly q) (holds (r .last .t))) (sym (r .ensures .rule))) h in
     subst₂ (λ (x : Table (g .R .Denot) (g .S .Denot)) (y : Call (g .R .Denot) (g .S .Denot)). Turn sum Steadily (state x) (request y) (came (c .outcome-in-Fixed-Fixed .result)) after)
-      (sym (c .in-Fixed-Fixed .is-0)) (sym (c .in-Fixed-Fixed .is-1)) there
+    (sym (c .in-Fixed-Fixed .is-0)) (sym (c .in-Fixed-Fixed .is-1)) there
 
 pub returns-in-Steady-Fixed : need.returns-in-Steady-Fixed
 returns-in-Steady-Fixed g c =
@@ -29,9 +29,9 @@ returns-in-Steady-Fixed g c =
     let after : State (Under (g .R .Denot) (g .S .Denot)) = joined (steadily (r .last .t .rule)) (holds (r .last .t)) in
     let h = fixed-turn sum Steadily (steadily (t .rule)) (holds t) (holds (r .last .t)) k (r .result) (r .ensures .call) in
     let there = subst₂ (λ (o : Came) (s : State (Under (g .R .Denot) (g .S .Denot))). Turn sum Steadily (joined (steadily (t .rule)) (holds t)) (fixed-request k) o s)
-          (sym (c .outcome-in-Steady-Fixed .ensures)) (ap (λ q. joined (steadily q) (holds (r .last .t))) (sym (r .ensures .rule))) h in
+    (sym (c .outcome-in-Steady-Fixed .ensures)) (ap (λ q. joined (steadily q) (holds (r .last .t))) (sym (r .ensures .rule))) h in
     subst₂ (λ (x : Table (g .R .Denot) (g .S .Denot)) (y : Call (g .R .Denot) (g .S .Denot)). Turn sum Steadily (state x) (request y) (came (c .outcome-in-Steady-Fixed .result)) after)
-      (sym (c .in-Steady-Fixed .is-0)) (sym (c .in-Steady-Fixed .is-1)) there
+    (sym (c .in-Steady-Fixed .is-0)) (sym (c .in-Steady-Fixed .is-1)) there
 
 pub returns-in-Steady-Quick : need.returns-in-Steady-Quick
 returns-in-Steady-Quick g c =
@@ -42,6 +42,6 @@ returns-in-Steady-Quick g c =
     let after : State (Under (g .R .Denot) (g .S .Denot)) = joined (steadily (r .last .t .rule)) (holds (r .last .t)) in
     let h = quick-turn sum Steadily (steadily (t .rule)) (holds t) (holds (r .last .t)) k (r .result) tt (r .ensures .call) in
     let there = subst₂ (λ (o : Came) (s : State (Under (g .R .Denot) (g .S .Denot))). Turn sum Steadily (joined (steadily (t .rule)) (holds t)) (quick-request k) o s)
-          (sym (c .outcome-in-Steady-Quick .ensures)) (ap (λ q. joined (steadily q) (holds (r .last .t))) (sym (r .ensures .rule))) h in
+    (sym (c .outcome-in-Steady-Quick .ensures)) (ap (λ q. joined (steadily q) (holds (r .last .t))) (sym (r .ensures .rule))) h in
     subst₂ (λ (x : Table (g .R .Denot) (g .S .Denot)) (y : Call (g .R .Denot) (g .S .Denot)). Turn sum Steadily (state x) (request y) (came (c .outcome-in-Steady-Quick .result)) after)
-      (sym (c .in-Steady-Quick .is-0)) (sym (c .in-Steady-Quick .is-1)) there
+    (sym (c .in-Steady-Quick .is-0)) (sym (c .in-Steady-Quick .is-1)) there
