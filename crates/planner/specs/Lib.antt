@@ -4,3 +4,4 @@ pub mod Tables
 pub mod Calls
 pub mod History
 pub mod Replaying
+pub mod Reporting

@@ -5,6 +5,7 @@ use analysis::task::Task;
 use interference::rule::Rule;
 use interference::steady::SteadyRule;
 
+mod reports;
 mod turns;
 
 // A call that an open table takes.
@@ -58,4 +59,20 @@ pub enum Outcome {
     Done,
     Refused(Refusal),
     NotApplicable,
+}
+
+// What a call left: what came of it, and the whole table. Entries from `count` on carry nothing; of an open table
+// there are no places, lengths and bounds.
+#[derive(Clone, Copy)]
+pub struct Report {
+    pub outcome: Outcome,
+    pub fixed: bool,
+    pub passed: bool,
+    pub bounded: bool,
+    pub cores: u32,
+    pub count: usize,
+    pub tasks: [Task; 32],
+    pub order: [usize; 32],
+    pub lengths: [u32; 32],
+    pub bounds: [u32; 32],
 }

@@ -22,6 +22,13 @@ impl Rows {
         lengths_of(&self.items)
     }
 
+    // The bounds, in the first places of an array.
+    pub(crate) fn read_bounds(&self) -> [u32; 32]
+        ensures { λ r. ⌜ take (vec-len (now (self .entry) .items)) r ≡ bounds (vec-items (now (self .entry) .items)) ⌝ }
+    {
+        bounds_of(&self.items)
+    }
+
     // Sets each length, and each bound to 0.
     pub(crate) fn set_lengths(&mut self, found: &[u32])
         requires { ⌜ vec-len (now self .items) ≤ length (now found) ⌝ }
@@ -101,6 +108,18 @@ fn lengths_of(rows: &[Row]) -> [u32; 32]
     let mut found = [0; 32];
     for i in 0..rows.len() {
         found[i] = rows[i].length;
+    }
+    found
+}
+
+// The bounds, in the first places.
+fn bounds_of(rows: &[Row]) -> [u32; 32]
+    requires { ⌜ length (now rows) ≤ 32 ⌝ }
+    ensures { λ r. ⌜ take (length (now (rows .entry))) r ≡ bounds (now (rows .entry)) ⌝ }
+{
+    let mut found = [0; 32];
+    for i in 0..rows.len() {
+        found[i] = rows[i].bound;
     }
     found
 }
