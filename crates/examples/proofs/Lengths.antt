@@ -20,10 +20,9 @@ use Rattle.analysis.specs.Steps.{InfeasibleByPlace, Greedy}
 use Rattle.analysis.proofs.Greedy.{greedy-start, greedy-least}
 use Rattle.analysis.proofs.RivalLaws.{passes-falls}
 use Rattle.analysis.proofs.ByTask.{infeasible-all, first-all}
-use Rattle.examples.specs.Lines.{Setting, sum-of, upward, at}
+use Rattle.examples.specs.Lines.{Setting, sum-of, upward, at, count, sizes, Fitting}
 use Rattle.examples.proofs.Outcomes.{nothing, nothing-is, gave, gave-is}
 use Rattle.examples.proofs.Placing.{Falls, placed, placed-is, clear, clear-is}
-use Rattle.examples.proofs.Settings.{count, sizes, Fitting}
 
 -- PassesOver compares two numbers
 module _ (sum : Query → ℕ) (m : ℕ) (ts : List Task) (low : List ℕ) (k : ℕ) (lens : List ℕ) (f : ℕ) where

@@ -15,7 +15,7 @@ use Rattle.interference.proofs.LayerLaws.{layered-lawful}
 use Rattle.analysis.specs.declared.task.Task.{Task}
 use Rattle.analysis.specs.Rivals.{no-task, TaskWithinLimits, TasksWithinLimits, cost-of, among}
 use Rattle.analysis.specs.Plans.{IsOrder, IsChoice}
-use Rattle.examples.specs.Lines.{Rules, full, limited, handled, sum-of, Setting, upward}
+use Rattle.examples.specs.Lines.{Rules, full, limited, handled, sum-of, Setting, upward, count, sizes, Fitting}
 use Rattle.examples.proofs.Bounded.{all-below, all-below-at}
 
 le-and : (a b : ℕ) (x : Bool) → (leb a b && x) ≡ true → (a ≤ b) × (x ≡ true)
@@ -25,7 +25,7 @@ le-and a b x h = let p = and-parts (leb a b) x h in (leb-true a b (p .0), p .1)
 abbrev pub rising : ℕ → ℕ → ℕ → Bool
 rising a b c = leb a b && leb b c
 
-rising-is : (a b c : ℕ) → rising a b c ≡ true → (a ≤ b) × (b ≤ c)
+pub rising-is : (a b c : ℕ) → rising a b c ≡ true → (a ≤ b) × (b ≤ c)
 rising-is a b c h = let p = le-and a b (leb b c) h in (p .0, leb-true b c (p .1))
 
 abbrev task-fits : Task → Bool
@@ -75,23 +75,6 @@ is-choice size n lens = all-below n (λ k. rising 1 (getD lens k 0) (size k))
 
 pub is-choice-is : (size : ℕ → ℕ) (n : ℕ) (lens : List ℕ) → is-choice size n lens ≡ true → IsChoice size n lens
 is-choice-is size n lens h k l = rising-is 1 (getD lens k 0) (size k) (all-below-at n (λ k. rising 1 (getD lens k 0) (size k)) h k l)
-
--- how many tasks there are, and the longest lengths that they can have
-abbrev pub count : Setting → ℕ
-count s = length (s .tasks)
-
-abbrev pub sizes : Setting → ℕ → ℕ
-sizes s = cost-of (s .tasks)
-
--- rule, cores and tasks are within the limits, and the order names each task once
-pub record Fitting (s : Setting) : Type 0 where
-  pub laws : Lawful (sum-of (s .rule))
-  pub some : 1 ≤ s .cores
-  pub most : s .cores ≤ 16
-  pub any : 1 ≤ count s
-  pub few : count s ≤ 32
-  pub sound : TasksWithinLimits (s .tasks)
-  pub ordered : IsOrder (count s) (upward (s .order))
 
 abbrev numbers-fit : Setting → Bool
 numbers-fit s = rising 1 (s .cores) 16 && rising 1 (count s) 32

@@ -1,4 +1,4 @@
--- The worked figures.
+-- Twelve worked figures, some of them of several lines.
 use Prim.Native.Nat.{ℕ}
 use mathlib.Core.List.{List, [], _∷_}
 use Rattle.analysis.specs.declared.task.Task.{Task}
