@@ -41,7 +41,7 @@ abbrev pub full-interference : List Task → List ℕ → List ℕ → ℕ → (
 full-interference ts q lens k late l e =
     over (higher q k) (higher-carried ts late l (l - e + 1)) (length ts) + over (lower q k) (lower-carried ts lens late l (l - e + 1)) (length ts)
 
--- the same where at most m - 1 tasks in higher places carry work in, and the task's own region pushes it back
+-- the same where at most m - 1 tasks in higher places carry work in, with the push-through of the task itself
 abbrev pub limited-interference : ℕ → List Task → List ℕ → List ℕ → ℕ → (ℕ → ℕ) → ℕ → ℕ → ℕ
 limited-interference m ts q lens k late l e =
     over (higher q k) (higher-plain ts l (l - e + 1)) (length ts) + over (lower q k) (lower-carried ts lens late l (l - e + 1)) (length ts) + (getD lens k 0 - 1)

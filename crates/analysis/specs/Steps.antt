@@ -53,7 +53,7 @@ abbrev pub total : (ℕ → ℕ) → ℕ → ℕ
 total f zero = 0
 total f (suc n) = total f n + f n
 
--- the least number in a range that h does not raise is one that it keeps, or there is none
+-- w is the least number of a range that h does not raise, and h keeps it; or no number of the range is such
 abbrev pub LeastKept : (ℕ → ℕ) → ℕ → ℕ → ℕ → Type 0
 LeastKept h low high w = (low ≤ w) × (w ≤ high) × (h w ≡ w) × ((v : ℕ) → low ≤ v → v ≤ high → h v ≤ v → w ≤ v)
 

@@ -20,6 +20,6 @@ carry-in-share q r = min (workload (r .cost) (r .period) (q .window + r .finish 
 abbrev pub plain-share : Query → Rival → ℕ
 plain-share q r = min (workload (r .cost) (r .period) (q .window)) (share-cap q)
 
--- the share of an interrupt handler of cost c whose runs are at least g ticks apart
+-- the share of an interrupt handler of cost c whose runs start at least g ticks apart
 abbrev pub handler-share : ℕ → ℕ → Query → ℕ
 handler-share c g q = min (workload c g (q .window)) (share-cap q)

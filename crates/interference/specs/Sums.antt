@@ -41,8 +41,8 @@ pub record GreatestTotal {X : Type 0} (f : X → ℕ) (n : ℕ) (xs : List X) (g
 abbrev pub carried : Query → Rival → ℕ
 carried q r = carry-in-share q r - plain-share q r
 
--- At most one upper rival for each other core carries work in. The task's own region adds region - 1: the task may
--- be pushed back by its own earlier job that could not be pre-empted.
+-- At most one upper rival for each other core carries work in. The term region - 1 is the push-through of the task's
+-- own earlier job.
 abbrev pub limited-sum : Query → ℕ
 limited-sum q =
     sumBy (plain-share q) (q .upper) + sumBy (carry-in-share q) (q .lower) + (q .region - 1)

@@ -53,7 +53,7 @@ pub impl<X: SteadyRule, Y: SteadyRule> SteadyRule for Choice<X, Y> as ChoiceStea
 }
 
 // The limited rule is not steady: a task alone on one core with cost and window 5 meets no interference with a
-// region of length 1, and with length 2 its own region pushes it back by one tick.
+// region of length 1, and with length 2 a push-through of one tick.
 pub fn limited_rises() -> (u32, u32)
     ensures before { λ r. ⌜ r .0 ≡ limited-sum alone ⌝ }
     ensures after { λ r. ⌜ r .1 ≡ limited-sum (moved alone 1) ⌝ }

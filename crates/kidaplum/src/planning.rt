@@ -16,7 +16,10 @@ use std::io;
 
 pub fn plan(rt: &LibcRuntime, cores: u32, tasks: &[Task]) -> io::Result<()> {
     if !is_task_set(cores, tasks) || tasks.len() > 8 {
-        return println!(rt, "these are not 1 to 8 tasks within the limits");
+        return println!(
+            rt,
+            "these are not at most 8 tasks within the limits on 1 to 16 cores"
+        );
     }
     let set = TaskSet { cores, tasks };
     match quick_plan(&Full, &SmallSet { set }) {
