@@ -5,3 +5,4 @@ pub mod OnTables
 pub mod Upward
 pub mod Entries
 pub mod OnTurns
+pub mod OnRuns

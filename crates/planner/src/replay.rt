@@ -8,6 +8,8 @@ use interference::steady::SteadyRule;
 mod reports;
 mod turns;
 
+pub use turns::replay;
+
 // A call that an open table takes.
 #[derive(Clone, Copy)]
 pub enum OpenCall {

@@ -1,13 +1,20 @@
+ghost use Prim.Native.Nat.{ℕ, min};
 ghost use mathlib.Core.Path.{_≡_};
+ghost use mathlib.Core.List.{map};
+ghost use lib.ListN.{length, take, drop};
+ghost use Rattle.std.specs.Of.Vec.{vec-items};
 ghost use Rattle.planner.specs.Tables.{held, holds};
-ghost use Rattle.planner.specs.History.{Turn};
+ghost use Rattle.planner.specs.History.{Turn, still};
+ghost use Rattle.planner.specs.Reporting.{Run};
 ghost use Rattle.planner.specs.Replaying.{sum-under, Steadily, request, state, came, answered, OpenDoes, FixedDoes, QuickDoes};
 use super::Call;
 use super::FixedCall;
 use super::OpenCall;
 use super::Outcome;
 use super::QuickCall;
+use super::Report;
 use super::Table;
+use super::reports::report;
 use crate::fixed::FixedTable;
 use crate::open::OpenTable;
 use crate::refusal::Refusal;
@@ -90,4 +97,30 @@ fn turn<R: Rule + Drop, S: SteadyRule + Drop>(
         (Table::Steady(t), Call::Reopen) => (Table::Open(t.reopen()), Outcome::Done),
         (table, _) => (table, Outcome::NotApplicable),
     }
+}
+
+// Carries the calls out in their order, as many as there are places for reports, reports on each, and gives the table
+// back.
+pub fn replay<R: Rule + Drop, S: SteadyRule + Drop>(
+    table: OpenTable,
+    calls: Vec<Call<R, S>>,
+    reports: &mut [Report],
+) -> (usize, Table<R, S>)
+    ensures count { λ r. ⌜ r .0 ≡ min (length (vec-items calls)) (length (now (reports .entry))) ⌝ }
+    ensures run { λ r. ⌜ Run (sum-under (R·Rule .meaning) (S·Rule .meaning)) Steadily (still (held table)) (map request (take (r .0) (vec-items calls))) (take (r .0) (now (reports .exit))) (state (r .1)) ⌝ }
+    ensures rest { λ r. ⌜ drop (r .0) (now (reports .exit)) ≡ drop (r .0) (now (reports .entry)) ⌝ }
+{
+    let mut table = Table::Open(table);
+    let mut rest = calls.into_iter();
+    let mut n = 0;
+    'calls: while n < reports.len() {
+        let Some(call) = rest.next() else {
+            break 'calls;
+        };
+        let (next, outcome) = turn(table, call);
+        table = next;
+        reports[n] = report(&table, outcome);
+        n += 1;
+    }
+    (n, table)
 }
