@@ -6,3 +6,5 @@ pub mod Upward
 pub mod Entries
 pub mod OnTurns
 pub mod OnRuns
+pub mod OneAnswer
+pub mod OneOutcome
