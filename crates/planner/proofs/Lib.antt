@@ -8,3 +8,4 @@ pub mod OnTurns
 pub mod OnRuns
 pub mod OneAnswer
 pub mod OneOutcome
+pub mod OnPromises

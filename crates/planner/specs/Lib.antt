@@ -5,3 +5,4 @@ pub mod Calls
 pub mod History
 pub mod Replaying
 pub mod Reporting
+pub mod Promises
