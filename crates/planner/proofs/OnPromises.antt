@@ -50,40 +50,40 @@ kind e = cc
 module _ {U : Type 0} (meaning : U → Query → ℕ) (Quick : U → Type 0) where
   follows : (s : State U) (c : Request U) (w : Came) (s′ : State U) → Turn meaning Quick s c w s′ → SetupFollows meaning Quick (setup s) c (setup s′)
   follows s c done s′ t = record {
-      follows = inl (t .0);
-      only = λ x f. ⊎-elim
+    follows = inl (t .0);
+    only = λ x f. ⊎-elim
         (λ m. one-setup meaning Quick (setup s) c x (setup s′) m (t .0))
         (λ b. absurd (⊎-elim (λ r. not-refused meaning Quick (setup s) c (setup s′) (r .0) (t .0) (r .1)) (λ z. made-fits meaning Quick (setup s) c (setup s′) (t .0) z) (b .0)))
         f;
-    }
+  }
   follows s c (refused k) s′ t = record {
-      follows = inr (inl (k, t .0), ap setup (t .1));
-      only = λ x f. ⊎-elim (λ m. absurd (not-refused meaning Quick (setup s) c x k m (t .0))) (λ b. b .1 ∙ sym (ap setup (t .1))) f;
-    }
+    follows = inr (inl (k, t .0), ap setup (t .1));
+    only = λ x f. ⊎-elim (λ m. absurd (not-refused meaning Quick (setup s) c x k m (t .0))) (λ b. b .1 ∙ sym (ap setup (t .1))) f;
+  }
   follows s c not-applicable s′ t = record {
-      follows = inr (inr (t .0), ap setup (t .1));
-      only = λ x f. ⊎-elim (λ m. absurd (made-fits meaning Quick (setup s) c x m (t .0))) (λ b. b .1 ∙ sym (ap setup (t .1))) f;
-    }
+    follows = inr (inr (t .0), ap setup (t .1));
+    only = λ x f. ⊎-elim (λ m. absurd (made-fits meaning Quick (setup s) c x m (t .0))) (λ b. b .1 ∙ sym (ap setup (t .1))) f;
+  }
 
   exact : (s : State U) (c : Request U) (w : Came) (s′ : State U) → Turn meaning Quick s c w s′ → RefusedExactly meaning Quick s c w s′
   exact s c done s′ t = record {
-      by-number = λ k. (λ e. absurd (clash-done k e), λ r. absurd (not-refused meaning Quick (setup s) c (setup s′) k (t .0) r));
-      unfit = (λ e. absurd (clash-both e), λ f. absurd (made-fits meaning Quick (setup s) c (setup s′) (t .0) f));
-      untouched = λ h. absurd (h refl);
-    }
+    by-number = λ k. (λ e. absurd (clash-done k e), λ r. absurd (not-refused meaning Quick (setup s) c (setup s′) k (t .0) r));
+    unfit = (λ e. absurd (clash-both e), λ f. absurd (made-fits meaning Quick (setup s) c (setup s′) (t .0) f));
+    untouched = λ h. absurd (h refl);
+  }
   exact s c (refused j) s′ t = record {
-      by-number = λ k. (
-        λ e. subst (λ (i : ℕ). Refuses meaning Quick (setup s) c i) (same-number j k e) (t .0),
-        λ r. ap refused (one-number meaning Quick (setup s) c j k (t .0) r),
-      );
-      unfit = (λ e. absurd (clash-unfit j (sym e)), λ f. absurd (refused-fits meaning Quick (setup s) c j (t .0) f));
-      untouched = λ h. t .1;
-    }
+    by-number = λ k. (
+      λ e. subst (λ (i : ℕ). Refuses meaning Quick (setup s) c i) (same-number j k e) (t .0),
+      λ r. ap refused (one-number meaning Quick (setup s) c j k (t .0) r),
+    );
+    unfit = (λ e. absurd (clash-unfit j (sym e)), λ f. absurd (refused-fits meaning Quick (setup s) c j (t .0) f));
+    untouched = λ h. t .1;
+  }
   exact s c not-applicable s′ t = record {
-      by-number = λ k. (λ e. absurd (clash-unfit k e), λ r. absurd (refused-fits meaning Quick (setup s) c k r (t .0)));
-      unfit = (λ e. t .0, λ f. refl);
-      untouched = λ h. t .1;
-    }
+    by-number = λ k. (λ e. absurd (clash-unfit k e), λ r. absurd (refused-fits meaning Quick (setup s) c k r (t .0)));
+    unfit = (λ e. t .0, λ f. refl);
+    untouched = λ h. t .1;
+  }
 
   -- Lengths that a search set.
   by-lengths : (a : State U) (x : Setup U) → Makes meaning Quick (setup a) seek-lengths x → LengthsLeast meaning Quick x
@@ -106,9 +106,9 @@ module _ {U : Type 0} (meaning : U → Query → ℕ) (Quick : U → Type 0) whe
   least-by s c x w p =
       let now : (y : Request U) → c ≡ y → Makes meaning Quick (setup s) y x = λ y e. subst (λ (z : Request U). Makes meaning Quick (setup s) z x) e p in
       ⊎-elim
-        (λ e. by-lengths s x (now seek-lengths e))
-        (λ r. ⊎-elim (λ e. by-quick s x (now quick-lengths e)) (λ r₂. ⊎-elim (λ e. by-plan s x (now seek-plan e)) (λ e. by-quick-plan s x (now quick-plan e)) r₂) r)
-        w
+      (λ e. by-lengths s x (now seek-lengths e))
+      (λ r. ⊎-elim (λ e. by-quick s x (now quick-lengths e)) (λ r₂. ⊎-elim (λ e. by-plan s x (now seek-plan e)) (λ e. by-quick-plan s x (now quick-plan e)) r₂) r)
+      w
 
   -- Bounds that a search set.
   bounds-by : (s s′ : State U) → Makes meaning Quick (setup s) seek-bounds (setup s′) → Marked meaning Quick seek-bounds s s′ → BoundsLeast meaning Quick s′
@@ -118,10 +118,10 @@ module _ {U : Type 0} (meaning : U → Query → ℕ) (Quick : U → Type 0) whe
 
   least : (s : State U) (c : Request U) (w : Came) (s′ : State U) → Turn meaning Quick s c w s′ → SetLeast meaning Quick c w s′
   least s c done s′ t = record {
-      lengths = λ e w. least-by s c (setup s′) w (t .0);
-      bounds = λ e w.
-          bounds-by s s′ (subst (λ (y : Request U). Makes meaning Quick (setup s) y (setup s′)) w (t .0)) (subst (λ (y : Request U). Marked meaning Quick y s s′) w (t .1));
-    }
+    lengths = λ e w. least-by s c (setup s′) w (t .0);
+    bounds = λ e w.
+        bounds-by s s′ (subst (λ (y : Request U). Makes meaning Quick (setup s) y (setup s′)) w (t .0)) (subst (λ (y : Request U). Marked meaning Quick y s s′) w (t .1));
+  }
   least s c (refused k) s′ t = record { lengths = λ e w. absurd (clash-done k (sym e)); bounds = λ e w. absurd (clash-done k (sym e)) }
   least s c not-applicable s′ t = record { lengths = λ e w. absurd (clash-both (sym e)); bounds = λ e w. absurd (clash-both (sym e)) }
 
@@ -134,20 +134,20 @@ module _ {U : Type 0} (meaning : U → Query → ℕ) (Quick : U → Type 0) whe
   none : (s : State U) (c : Request U) (w : Came) (s′ : State U) → Turn meaning Quick s c w s′ → NoneFound meaning Quick (setup s) c w
   none (still m) c w s′ t = tt
   none (joined u m) c w s′ t = record {
-      lengths = λ h. ⊎-elim
+    lengths = λ h. ⊎-elim
         (λ e. let x = refused-as (joined u m) c seek-lengths w s′ 7 e t in (λ i. x .0 i .1, λ no. x .1 (refl, no)))
         (λ e. let x = refused-as (joined u m) c quick-lengths w s′ 7 (e .0) t in (λ i. x .0 i .1 .1, λ no. x .1 (e .1, (refl, no))))
         h;
-      too-many = λ h. ⊎-elim
+    too-many = λ h. ⊎-elim
         (λ e. let x = refused-as (joined u m) c seek-plan w s′ 8 e t in (λ i. eight (bare m) (meaning u) (x .0 i), λ many. x .1 (inl (refl, many))))
         (λ e. let x = refused-as (joined u m) c quick-plan w s′ 8 (e .0) t in (λ i. eight (bare m) (meaning u) (x .0 i .1), λ many. x .1 (e .1, inl (refl, many))))
         h;
-      plan = λ h few. ⊎-elim
+    plan = λ h few. ⊎-elim
         (λ e. let x = refused-as (joined u m) c seek-plan w s′ 9 e t in (λ i. nine (bare m) (meaning u) (x .0 i), λ no. x .1 (inr (refl, few, no))))
         (λ e. let x = refused-as (joined u m) c quick-plan w s′ 9 (e .0) t in (λ i. nine (bare m) (meaning u) (x .0 i .1), λ no. x .1 (e .1, inr (refl, few, no))))
         h;
-      bounds = λ e. let x = refused-as (joined u m) c seek-bounds w s′ 10 e t in (λ i. x .0 i .1, λ no. x .1 (refl, no));
-    }
+    bounds = λ e. let x = refused-as (joined u m) c seek-bounds w s′ 10 e t in (λ i. x .0 i .1, λ no. x .1 (refl, no));
+  }
 
   -- No mark lies, before and after.
   abbrev Truthful : State U → Type 0
@@ -190,12 +190,12 @@ module _ {U : Type 0} (meaning : U → Query → ℕ) (Quick : U → Type 0) whe
   passed-by s c (joined v n) w p k =
       let on : (y : Request U) → c ≡ y → Marked meaning Quick y s (joined v n) = λ y e. subst (λ (z : Request U). Marked meaning Quick z s (joined v n)) e k in
       ⊎-elim
-        (λ e. ap (λ (y : Fixed). y .passed) (on seek-lengths e))
-        (λ r. ⊎-elim
-          (λ e. ap (λ (y : Fixed). y .passed) (on quick-lengths e))
-          (λ r₂. ⊎-elim (λ e. ap (λ (y : Fixed). y .passed) (on seek-plan e)) (λ e. ap (λ (y : Fixed). y .passed) (on quick-plan e)) r₂)
-          r)
-        w
+      (λ e. ap (λ (y : Fixed). y .passed) (on seek-lengths e))
+      (λ r. ⊎-elim
+      (λ e. ap (λ (y : Fixed). y .passed) (on quick-lengths e))
+      (λ r₂. ⊎-elim (λ e. ap (λ (y : Fixed). y .passed) (on seek-plan e)) (λ e. ap (λ (y : Fixed). y .passed) (on quick-plan e)) r₂)
+      r)
+      w
 
   bounded-by : (s s′ : State U) → Makes meaning Quick (setup s) seek-bounds (setup s′) → Marked meaning Quick seek-bounds s s′ → Bounded s′
   bounded-by (still m) s′ p k = absurd p
@@ -204,13 +204,13 @@ module _ {U : Type 0} (meaning : U → Query → ℕ) (Quick : U → Type 0) whe
 
   marks : (s : State U) (c : Request U) (w : Came) (s′ : State U) → Truthful s → Turn meaning Quick s c w s′ → MarksTrue meaning Quick c w s′
   marks s c w s′ h t = record {
-      passed-on = λ e x. let d = subst (λ (y : Came). Turn meaning Quick s c y s′) e t in passed-by s c s′ x (d .0) (d .1);
-      bounded-on = λ e x.
-          let d = subst (λ (y : Request U). Turn meaning Quick s y done s′) x (subst (λ (y : Came). Turn meaning Quick s c y s′) e t) in
-          bounded-by s s′ (d .0) (d .1);
-      passed-true = true-after s c w s′ h t .0;
-      bounded-true = true-after s c w s′ h t .1;
-    }
+    passed-on = λ e x. let d = subst (λ (y : Came). Turn meaning Quick s c y s′) e t in passed-by s c s′ x (d .0) (d .1);
+    bounded-on = λ e x.
+        let d = subst (λ (y : Request U). Turn meaning Quick s y done s′) x (subst (λ (y : Came). Turn meaning Quick s c y s′) e t) in
+        bounded-by s s′ (d .0) (d .1);
+    passed-true = true-after s c w s′ h t .0;
+    bounded-true = true-after s c w s′ h t .1;
+  }
 
   -- the table after each call of a run
   abbrev states : (s : State U) (cs : List (Request U)) (rs : List Report) (end : State U) → Run meaning Quick s cs rs end → List (State U)
@@ -226,9 +226,9 @@ module _ {U : Type 0} (meaning : U → Query → ℕ) (Quick : U → Type 0) whe
   ends s (c ∷ cs) (r ∷ rs) end h = ends (h .0) cs rs end (h .3)
 
   each : (P : State U → Request U → Report → State U → Type 0)
-    → ((s : State U) (c : Request U) (r : Report) (s′ : State U) → Truthful s → Turn meaning Quick s c (came (r .outcome)) s′ → Shows s′ r → P s c r s′)
-    → (s : State U) (cs : List (Request U)) (rs : List Report) (end : State U) → Truthful s → (h : Run meaning Quick s cs rs end)
-    → OfEach meaning Quick P s cs rs (states s cs rs end h)
+      → ((s : State U) (c : Request U) (r : Report) (s′ : State U) → Truthful s → Turn meaning Quick s c (came (r .outcome)) s′ → Shows s′ r → P s c r s′)
+      → (s : State U) (cs : List (Request U)) (rs : List Report) (end : State U) → Truthful s → (h : Run meaning Quick s cs rs end)
+      → OfEach meaning Quick P s cs rs (states s cs rs end h)
   each P one s [] [] end t h = tt
   each P one s [] (r ∷ rs) end t h = absurd h
   each P one s (c ∷ cs) [] end t h = absurd h
@@ -242,7 +242,7 @@ module _ {U : Type 0} (meaning : U → Query → ℕ) (Quick : U → Type 0) whe
         reports-show-it = each (λ s c r s′. Shows s′ r) (λ s c r s′ x y z. z) (still m) cs rs end t h;
         last-is-given-back = ends (still m) cs rs end h;
         setup-follows-from-the-calls-alone =
-          each (λ s c r s′. SetupFollows meaning Quick (setup s) c (setup s′)) (λ s c r s′ x y z. follows s c (came (r .outcome)) s′ y) (still m) cs rs end t h;
+            each (λ s c r s′. SetupFollows meaning Quick (setup s) c (setup s′)) (λ s c r s′ x y z. follows s c (came (r .outcome)) s′ y) (still m) cs rs end t h;
         refusals-are-exact = each (λ s c r s′. RefusedExactly meaning Quick s c (came (r .outcome)) s′) (λ s c r s′ x y z. exact s c (came (r .outcome)) s′ y) (still m) cs rs end t h;
         marks-tell-the-truth = each (λ s c r s′. MarksTrue meaning Quick c (came (r .outcome)) s′) (λ s c r s′ x y z. marks s c (came (r .outcome)) s′ x y) (still m) cs rs end t h;
         refused-seek-means-none = each (λ s c r s′. NoneFound meaning Quick (setup s) c (came (r .outcome))) (λ s c r s′ x y z. none s c (came (r .outcome)) s′ y) (still m) cs rs end t h;

@@ -15,12 +15,12 @@ ordered [] (x ∷ xs) e = absurd (omega arith)
 ordered (q ∷ qs) [] e = absurd (omega arith)
 ordered (q ∷ qs) (x ∷ xs) e =
     ⊎-elim
-      (λ same. ⊎-elim
-        (λ rest. inl cc)
-        (λ b. inr (⊎-elim (λ l. inl (inr (same, l))) (λ r. inr (inr (sym same, r))) b))
-        (ordered qs xs (omega arith)))
-      (λ l. inr (⊎-elim (λ a. inl (inl a)) (λ b. inr (inl b)) l))
-      (cases-order q x)
+    (λ same. ⊎-elim
+    (λ rest. inl cc)
+    (λ b. inr (⊎-elim (λ l. inl (inr (same, l))) (λ r. inr (inr (sym same, r))) b))
+    (ordered qs xs (omega arith)))
+    (λ l. inr (⊎-elim (λ a. inl (inl a)) (λ b. inr (inl b)) l))
+    (cases-order q x)
 
 module _ (size : ℕ → ℕ) (n : ℕ) (ok : Test) where
   pub one-choice : (q a b : List ℕ) → length a ≡ n → length b ≡ n → LeastChoice size n ok q a → LeastChoice size n ok q b → a ≡ b
@@ -32,7 +32,7 @@ module _ (size : ℕ → ℕ) (n : ℕ) (ok : Test) where
   pub one-plan : (q x a b : List ℕ) → length a ≡ n → length b ≡ n → FirstOrder size n ok q a → FirstOrder size n ok x b → (q ≡ x) × (a ≡ b)
   one-plan q x a b e h f g =
       let same : q ≡ x = ⊎-elim
-            (λ s. s)
-            (λ b′. absurd (⊎-elim (λ l. g .first q (f .order) l a (f .lengths .choice) (f .lengths .pass)) (λ r. f .first x (g .order) r b (g .lengths .choice) (g .lengths .pass)) b′))
-            (ordered q x (f .order .0 ∙ sym (g .order .0))) in
+      (λ s. s)
+      (λ b′. absurd (⊎-elim (λ l. g .first q (f .order) l a (f .lengths .choice) (f .lengths .pass)) (λ r. f .first x (g .order) r b (g .lengths .choice) (g .lengths .pass)) b′))
+      (ordered q x (f .order .0 ∙ sym (g .order .0))) in
       (same, one-choice x a b e h (subst (λ o. LeastChoice size n ok o a) same (f .lengths)) (g .lengths))

@@ -29,9 +29,9 @@ module _ {U : Type 0} (meaning : U → Query → ℕ) (Quick : U → Type 0) whe
     plan-number : (k j : ℕ) → PlanRefuses (of-setup m ts q ls) (meaning u) k → PlanRefuses (of-setup m ts q ls) (meaning u) j → k ≡ j
     plan-number k j r x =
         ⊎-elim
-          (λ a. ⊎-elim (λ b. a .0 ∙ sym (b .0)) (λ b. absurd (omega (arith, a .1, b .1))) x)
-          (λ a. ⊎-elim (λ b. absurd (omega (arith, a .1, b .1))) (λ b. a .0 ∙ sym (b .0)) x)
-          r
+        (λ a. ⊎-elim (λ b. a .0 ∙ sym (b .0)) (λ b. absurd (omega (arith, a .1, b .1))) x)
+        (λ a. ⊎-elim (λ b. absurd (omega (arith, a .1, b .1))) (λ b. a .0 ∙ sym (b .0)) x)
+        r
 
     one-lengths : (s t : Setup U) → GetsLengths meaning Quick u m ts q s → GetsLengths meaning Quick u m ts q t → s ≡ t
     one-lengths s t p g =

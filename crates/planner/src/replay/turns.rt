@@ -5,7 +5,7 @@ ghost use lib.ListN.{length, take, drop};
 ghost use Rattle.std.specs.Of.Vec.{vec-items};
 ghost use Rattle.planner.specs.Tables.{held, holds};
 ghost use Rattle.planner.specs.History.{Turn, still};
-ghost use Rattle.planner.specs.Reporting.{Run};
+ghost use Rattle.planner.specs.Promises.{Promises};
 ghost use Rattle.planner.specs.Replaying.{sum-under, Steadily, request, state, came, answered, OpenDoes, FixedDoes, QuickDoes};
 use super::Call;
 use super::FixedCall;
@@ -107,7 +107,7 @@ pub fn replay<R: Rule + Drop, S: SteadyRule + Drop>(
     reports: &mut [Report],
 ) -> (usize, Table<R, S>)
     ensures count { λ r. ⌜ r .0 ≡ min (length (vec-items calls)) (length (now (reports .entry))) ⌝ }
-    ensures run { λ r. ⌜ Run (sum-under (R·Rule .meaning) (S·Rule .meaning)) Steadily (still (held table)) (map request (take (r .0) (vec-items calls))) (take (r .0) (now (reports .exit))) (state (r .1)) ⌝ }
+    ensures promises { λ r. ⌜ Promises (sum-under (R·Rule .meaning) (S·Rule .meaning)) Steadily (still (held table)) (map request (take (r .0) (vec-items calls))) (take (r .0) (now (reports .exit))) (state (r .1)) ⌝ }
     ensures rest { λ r. ⌜ drop (r .0) (now (reports .exit)) ≡ drop (r .0) (now (reports .entry)) ⌝ }
 {
     let mut table = Table::Open(table);

@@ -11,6 +11,7 @@ use Rattle.planner.specs.History.{still}
 use Rattle.planner.specs.Replaying.{sum-under, Steadily, request, state}
 use Rattle.planner.specs.Reporting.{Run}
 use Rattle.planner.proofs.OnRuns.{start, onward, ended}
+use Rattle.planner.proofs.OnPromises.{keeps}
 use Rattle.planner.proofs.replay.turns.replay.Needs.{else-calls-test, then-calls-test·in-rest}
 use Rattle.planner.proofs.replay.turns.replay.Needs as need
 
@@ -39,7 +40,8 @@ returns g c =
         | else-calls-test w ↦ omega (arith, w .calls-test .left, c .calls .inv .within, c .calls .inv .room)
         | then-calls-test·in-rest w ↦ omega (arith, w .in-rest .ensures tt .cases .0, c .calls .inv .within, c .calls .inv .room)
       ];
-      run = subst (λ (cs : List (Call (g .R .Denot) (g .S .Denot))). Run sum Steadily (still (held (c .args .table))) (map request (take n cs)) (take n (c .calls .reports)) (state (c .calls .table))) e
-          (ended sum Steadily request (still (held (c .args .table))) all (c .args .reports .now) n (state (c .calls .table)) (into-iter-items (c .calls .rest)) (c .calls .reports) (c .calls .inv));
+      promises = keeps sum Steadily (held (c .args .table)) (map request (take n (vec-items (c .args .calls)))) (take n (c .calls .reports)) (state (c .calls .table))
+          (subst (λ (cs : List (Call (g .R .Denot) (g .S .Denot))). Run sum Steadily (still (held (c .args .table))) (map request (take n cs)) (take n (c .calls .reports)) (state (c .calls .table))) e
+          (ended sum Steadily request (still (held (c .args .table))) all (c .args .reports .now) n (state (c .calls .table)) (into-iter-items (c .calls .rest)) (c .calls .reports) (c .calls .inv)));
       rest = c .calls .inv .kept;
     }
