@@ -241,6 +241,8 @@ module _ {U : Type 0} (meaning : U → Query → ℕ) (Quick : U → Type 0) whe
         after = states (still m) cs rs end h;
         reports-show-it = each (λ s c r s′. Shows s′ r) (λ s c r s′ x y z. z) (still m) cs rs end t h;
         last-is-given-back = ends (still m) cs rs end h;
+        marks-and-bounds-are-set-by-the-call =
+            each (λ s c r s′. came (r .outcome) ≡ done → Marked meaning Quick c s s′) (λ s c r s′ x y z e. subst (λ (w : Came). Turn meaning Quick s c w s′) e y .1) (still m) cs rs end t h;
         setup-follows-from-the-calls-alone =
             each (λ s c r s′. SetupFollows meaning Quick (setup s) c (setup s′)) (λ s c r s′ x y z. follows s c (came (r .outcome)) s′ y) (still m) cs rs end t h;
         refusals-are-exact = each (λ s c r s′. RefusedExactly meaning Quick s c (came (r .outcome)) s′) (λ s c r s′ x y z. exact s c (came (r .outcome)) s′ y) (still m) cs rs end t h;

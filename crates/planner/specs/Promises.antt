@@ -13,7 +13,7 @@ use Rattle.analysis.specs.Passing.{PassesOver}
 use Rattle.analysis.specs.Plans.{IsChoice, ChoicePasses, LeastLengths, NoLengths, NoPlan}
 use Rattle.analysis.specs.Bounds.{Solution, LeastSolution, NoSolution}
 use Rattle.planner.specs.declared.replay.Report.{Report}
-use Rattle.planner.specs.History.{Request, seek-lengths, quick-lengths, seek-plan, quick-plan, seek-bounds, Setup, unfixed, fixed-by, Came, done, refused, not-applicable, State, still, joined, setup, Refuses, Unfit, Follows}
+use Rattle.planner.specs.History.{Request, seek-lengths, quick-lengths, seek-plan, quick-plan, seek-bounds, Setup, unfixed, fixed-by, Came, done, refused, not-applicable, State, still, joined, setup, Refuses, Unfit, Follows, Marked}
 use Rattle.planner.specs.Replaying.{came}
 use Rattle.planner.specs.Reporting.{Shows}
 
@@ -108,6 +108,7 @@ module _ {U : Type 0} (meaning : U → Query → ℕ) (Quick : U → Type 0) whe
     pub after : List (State U)
     pub reports-show-it : OfEach (λ s c r s′. Shows s′ r) start calls reports after
     pub last-is-given-back : end ≡ final start after
+    pub marks-and-bounds-are-set-by-the-call : OfEach (λ s c r s′. came (r .outcome) ≡ done → Marked meaning Quick c s s′) start calls reports after
     pub setup-follows-from-the-calls-alone : OfEach (λ s c r s′. SetupFollows (setup s) c (setup s′)) start calls reports after
     pub refusals-are-exact : OfEach (λ s c r s′. RefusedExactly s c (came (r .outcome)) s′) start calls reports after
     pub marks-tell-the-truth : OfEach (λ s c r s′. MarksTrue c (came (r .outcome)) s′) start calls reports after
