@@ -4,7 +4,7 @@ use Rattle.std.proofs.lemmas.List.{length_push, append-nil, take_more, take_all}
 use Rattle.std.proofs.lemmas.Bool.{both_ways, cond-true, cond-false, cases_Bool, eq-eqb, eqb-true, ne_eqb, false≢true, cases_order}
 use Rattle.analysis.specs.Rivals.{among, picked, under}
 use Rattle.analysis.specs.Plans.{Named, IsOrder}
-use Rattle.analysis.proofs.Picked.{picked-fewer}
+use Rattle.analysis.proofs.Picked.{picked_fewer}
 
 pub among_none : (low : List ℕ) (x : ℕ) → among low x ≡ false → (p : ℕ) → p < length low → get_or low p 0 ≡ x → ⊥
 among_none [] x e p l h = omega arith
@@ -14,13 +14,13 @@ among_none (y ∷ ys) x e (suc p) l h =
     (⊎_elim (λ t. absurd (both_ways (cond (eqb y x) true (among ys x)) e (cond-true (eqb y x) true (among ys x) t))) (λ f. sym (cond-false (eqb y x) true (among ys x) f) ∙ e) (cases_Bool (eqb y x)))
     p (omega arith) h
 
-pub among-place : (low : List ℕ) (j : ℕ) → among low j ≡ true → (p : ℕ) × (p < length low) × (get_or low p 0 ≡ j)
-among-place [] j e = absurd (false≢true e)
-among-place (y ∷ ys) j e =
+pub among_place : (low : List ℕ) (j : ℕ) → among low j ≡ true → (p : ℕ) × (p < length low) × (get_or low p 0 ≡ j)
+among_place [] j e = absurd (false≢true e)
+among_place (y ∷ ys) j e =
     ⊎_elim
     (λ t. (0, omega arith, eqb-true y j t))
     (λ f.
-    let r = among-place ys j (sym (cond-false (eqb y j) true (among ys j) f) ∙ e) in
+    let r = among_place ys j (sym (cond-false (eqb y j) true (among ys j) f) ∙ e) in
     (suc r.0, omega (arith, r.1), r.2))
     (cases_Bool (eqb y j))
 
@@ -35,9 +35,9 @@ under_at (x ∷ xs) (suc p) l h =
 
 -- one number more is picked
 module _ (a b : ℕ → Bool) (x : ℕ) (same : (j : ℕ) → (j ≡ x → ⊥) → b j ≡ a j) (new : a x ≡ false) (now : b x ≡ true) where
-  same-before : (n : ℕ) → n ≤ x → picked b (λ j. j) n ≡ picked a (λ j. j) n
-  same-before zero l = refl
-  same-before (suc n) l = (λ i. same-before n (omega arith) i ++ cond (same n (λ e. omega arith) i) (n ∷ []) [])
+  same_before : (n : ℕ) → n ≤ x → picked b (λ j. j) n ≡ picked a (λ j. j) n
+  same_before zero l = refl
+  same_before (suc n) l = (λ i. same_before n (omega arith) i ++ cond (same n (λ e. omega arith) i) (n ∷ []) [])
 
   pub one_more : (n : ℕ) → x < n → length (picked b (λ j. j) n) ≡ length (picked a (λ j. j) n) + 1
   one_more zero l = absurd (omega arith)
@@ -46,7 +46,7 @@ module _ (a b : ℕ → Bool) (x : ℕ) (same : (j : ℕ) → (j ≡ x → ⊥) 
       (λ e.
       let bn : b n ≡ true = subst (λ j. b j ≡ true) e now in
       let an : a n ≡ false = subst (λ j. a j ≡ false) e new in
-      let s = same-before n (omega arith) in
+      let s = same_before n (omega arith) in
       omega (
         arith,
         ap (λ l. length (picked b (λ j. j) n ++ l)) (cond-true (b n) (n ∷ []) [] bn),
@@ -68,36 +68,36 @@ module _ (a b : ℕ → Bool) (x : ℕ) (same : (j : ℕ) → (j ≡ x → ⊥) 
       ))
       (cases_order x n)
 
-among-push : (low : List ℕ) (x j : ℕ) → (j ≡ x → ⊥) → among (low ++ x ∷ []) j ≡ among low j
-among-push [] x j e = cond-false (eqb x j) true false (ne_eqb x j (λ h. e (sym h)))
-among-push (y ∷ ys) x j e = ap (λ t. cond (eqb y j) true t) (among-push ys x j e)
+among_push : (low : List ℕ) (x j : ℕ) → (j ≡ x → ⊥) → among (low ++ x ∷ []) j ≡ among low j
+among_push [] x j e = cond-false (eqb x j) true false (ne_eqb x j (λ h. e (sym h)))
+among_push (y ∷ ys) x j e = ap (λ t. cond (eqb y j) true t) (among_push ys x j e)
 
-among-last : (low : List ℕ) (x : ℕ) → among (low ++ x ∷ []) x ≡ true
-among-last [] x = cond-true (eqb x x) true false (eq-eqb x x refl)
-among-last (y ∷ ys) x = ⊎_elim (λ t. cond-true (eqb y x) true (among (ys ++ x ∷ []) x) t) (λ f. cond-false (eqb y x) true (among (ys ++ x ∷ []) x) f ∙ among-last ys x) (cases_Bool (eqb y x))
+among_last : (low : List ℕ) (x : ℕ) → among (low ++ x ∷ []) x ≡ true
+among_last [] x = cond-true (eqb x x) true false (eq-eqb x x refl)
+among_last (y ∷ ys) x = ⊎_elim (λ t. cond-true (eqb y x) true (among (ys ++ x ∷ []) x) t) (λ f. cond-false (eqb y x) true (among (ys ++ x ∷ []) x) f ∙ among_last ys x) (cases_Bool (eqb y x))
 
-none-picked : (n : ℕ) → length (picked (among []) (λ j. j) n) ≡ 0
-none-picked zero = refl
-none-picked (suc n) = ap length (append-nil (picked (among []) (λ j. j) n)) ∙ none-picked n
+none_picked : (n : ℕ) → length (picked (among []) (λ j. j) n) ≡ 0
+none_picked zero = refl
+none_picked (suc n) = ap length (append-nil (picked (among []) (λ j. j) n)) ∙ none_picked n
 
 -- as many numbers below n are named as the list is long
-count-named : (n : ℕ) (q : List ℕ) → Named n q → (p : ℕ) → p ≤ length q → length (picked (among (take p q)) (λ j. j) n) ≡ p
-count-named n q h zero l = none-picked n
-count-named n q h (suc p) l =
+count_named : (n : ℕ) (q : List ℕ) → Named n q → (p : ℕ) → p ≤ length q → length (picked (among (take p q)) (λ j. j) n) ≡ p
+count_named n q h zero l = none_picked n
+count_named n q h (suc p) l =
     let k = get_or q p 0 in
     let s = h p (omega arith) in
     let e : take (suc p) q ≡ take p q ++ k ∷ [] = (rw add-one at (take_more q p 0 (omega arith))) in
-    let r = one_more (among (take p q)) (among (take p q ++ k ∷ [])) k (λ j d. among-push (take p q) k j d) s.1 (among-last (take p q) k) n s.0 in
-    omega (arith, ap (λ l. length (picked (among l) (λ j. j) n)) e, r, count-named n q h p (omega arith))
+    let r = one_more (among (take p q)) (among (take p q ++ k ∷ [])) k (λ j d. among_push (take p q) k j d) s.1 (among_last (take p q) k) n s.0 in
+    omega (arith, ap (λ l. length (picked (among l) (λ j. j) n)) e, r, count_named n q h p (omega arith))
 
 -- every task has a place
 pub everyone : (n : ℕ) (q : List ℕ) → IsOrder n q → (k : ℕ) → k < n → (p : ℕ) × (p < length q) × (get_or q p 0 ≡ k)
 everyone n q order k l =
     ⊎_elim
-    (λ t. among-place q k t)
+    (λ t. among_place q k t)
     (λ f.
-    let c = count-named n q order.1 (length q) (omega arith) in
+    let c = count_named n q order.1 (length q) (omega arith) in
     let e = take_all (length q) q (omega arith) in
-    let few = picked-fewer (among q) (λ _. false) (λ j. j) (λ j. j) (λ j a b. false≢true b) k f refl n l in
+    let few = picked_fewer (among q) (λ _. false) (λ j. j) (λ j. j) (λ j a b. false≢true b) k f refl n l in
     absurd (omega (arith, ap (λ l. length (picked (among l) (λ j. j) n)) e, order.0)))
     (cases_Bool (among q k))

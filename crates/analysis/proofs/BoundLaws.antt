@@ -4,72 +4,72 @@ use Rattle.std.specs.List.{AllZip, AllByRecursion as All}
 use Rattle.std.proofs.lemmas.Bool.{and_parts, not-true, eqb-false}
 use Rattle.interference.specs.declared.rival.Rival.{Rival}
 use Rattle.interference.specs.Laws.{NoEarlier, NoSmaller, Lawful}
-use Rattle.interference.proofs.GrowthLaws.{grows-together}
+use Rattle.interference.proofs.GrowthLaws.{grows_together}
 use Rattle.interference.specs.Questions.{Query, Valid, RivalsWithinLimits, posed}
-use Rattle.analysis.specs.Rivals.{no-task, TaskWithinLimits, TasksWithinLimits, cost-of, among, above, below, upper-rival, lower-rival, uppers, lowers, finish-limits, limit-of, under}
+use Rattle.analysis.specs.Rivals.{no_task, TaskWithinLimits, TasksWithinLimits, cost_of, among, above, below, upper_rival, lower_rival, uppers, lowers, finish_limits, limit_of, under}
 use Rattle.analysis.specs.Passing.{PassesOver}
 use Rattle.analysis.specs.Plans.{IsChoice, IsOrder}
-use Rattle.analysis.specs.Bounds.{response, next-bound, bound_of, response-of, BoundsWithin, Solution, LeastSolution, NoSolution}
+use Rattle.analysis.specs.Bounds.{response, next_bound, bound_of, response_of, BoundsWithin, Solution, LeastSolution, NoSolution}
 use Rattle.analysis.specs.Steps.{PlacesPass, Overrun, Rising}
 use Rattle.analysis.specs.declared.task.Task.{Task}
 use Rattle.analysis.proofs.Among.{everyone, under_at}
-use Rattle.analysis.proofs.Picked.{each-picked}
-use Rattle.analysis.proofs.RivalLaws.{Late, question-valid, div_grows, limit-at}
+use Rattle.analysis.proofs.Picked.{each_picked}
+use Rattle.analysis.proofs.RivalLaws.{Late, question_valid, div_grows, limit_at}
 
--- within the finish-limits
-pub within-late : (ts : List Task) → TasksWithinLimits ts → (bs : List ℕ) → BoundsWithin (length ts) (cost-of ts) (limit-of ts) bs → Late ts bs
-within-late ts s bs w j l = let h = s j l in let b = w j l in (omega arith, omega arith)
+-- within the finish_limits
+pub within_late : (ts : List Task) → TasksWithinLimits ts → (bs : List ℕ) → BoundsWithin (length ts) (cost_of ts) (limit_of ts) bs → Late ts bs
+within_late ts s bs w j l = let h = s j l in let b = w j l in (omega arith, omega arith)
 
-pub valid-bound : (m c f d b : ℕ) (us ls : List Rival) → 1 ≤ m → m ≤ 16 → 1 ≤ f → f ≤ c → c ≤ b → b ≤ d → d ≤ 65535 → length us + length ls ≤ 31 → RivalsWithinLimits us → RivalsWithinLimits ls
+pub valid_bound : (m c f d b : ℕ) (us ls : List Rival) → 1 ≤ m → m ≤ 16 → 1 ≤ f → f ≤ c → c ≤ b → b ≤ d → d ≤ 65535 → length us + length ls ≤ 31 → RivalsWithinLimits us → RivalsWithinLimits ls
     → Valid (posed m (b - (f - 1)) (c - (f - 1)) f us ls)
-valid-bound m c f d b us ls a h i j k l o few hu hl =
+valid_bound m c f d b us ls a h i j k l o few hu hl =
     record { times = (omega arith, omega arith, omega arith, omega arith, omega arith); sizes = (a, h, few); uppers = hu; lowers = hl }
 
 -- one task's own equation rises with its bound
-pub next-bound-widens : (sum : Query → ℕ) → Lawful sum → (m c f : ℕ) (us ls : List Rival) → 1 ≤ m → (v w : ℕ) → v ≤ w
-    → Valid (posed m (v - (f - 1)) (c - (f - 1)) f us ls) → Valid (posed m (w - (f - 1)) (c - (f - 1)) f us ls) → next-bound sum m c f us ls v ≤ next-bound sum m c f us ls w
-next-bound-widens sum laws m c f us ls pos v w le a b =
-    let h = laws.window-grows (posed m (v - (f - 1)) (c - (f - 1)) f us ls) (w - (f - 1)) a b (omega arith) in
+pub next_bound_widens : (sum : Query → ℕ) → Lawful sum → (m c f : ℕ) (us ls : List Rival) → 1 ≤ m → (v w : ℕ) → v ≤ w
+    → Valid (posed m (v - (f - 1)) (c - (f - 1)) f us ls) → Valid (posed m (w - (f - 1)) (c - (f - 1)) f us ls) → next_bound sum m c f us ls v ≤ next_bound sum m c f us ls w
+next_bound_widens sum laws m c f us ls pos v w le a b =
+    let h = laws.window_grows (posed m (v - (f - 1)) (c - (f - 1)) f us ls) (w - (f - 1)) a b (omega arith) in
     omega (arith, div_grows (sum (posed m (v - (f - 1)) (c - (f - 1)) f us ls)) (sum (posed m (w - (f - 1)) (c - (f - 1)) f us ls)) m pos h)
 
-module _ (sum : Query → ℕ) (laws : Lawful sum) (m : ℕ) (some : 1 ≤ m) (most : m ≤ 16) (ts : List Task) (sound : TasksWithinLimits ts) (few : length ts ≤ 32) (q lens : List ℕ) (choice : IsChoice (cost-of ts) (length ts) lens) where
-  valid-at : (k : ℕ) → k < length ts → (bs : List ℕ) → BoundsWithin (length ts) (cost-of ts) (limit-of ts) bs → (v : ℕ) → cost-of ts k ≤ v → v ≤ limit-of ts k
-      → Valid (posed m (v - (get_or lens k 0 - 1)) (cost-of ts k - (get_or lens k 0 - 1)) (get_or lens k 0) (uppers ts bs (under q k) k) (lowers ts bs lens (under q k) k))
-  valid-at k here bs w v a b =
+module _ (sum : Query → ℕ) (laws : Lawful sum) (m : ℕ) (some : 1 ≤ m) (most : m ≤ 16) (ts : List Task) (sound : TasksWithinLimits ts) (few : length ts ≤ 32) (q lens : List ℕ) (choice : IsChoice (cost_of ts) (length ts) lens) where
+  valid_at : (k : ℕ) → k < length ts → (bs : List ℕ) → BoundsWithin (length ts) (cost_of ts) (limit_of ts) bs → (v : ℕ) → cost_of ts k ≤ v → v ≤ limit_of ts k
+      → Valid (posed m (v - (get_or lens k 0 - 1)) (cost_of ts k - (get_or lens k 0 - 1)) (get_or lens k 0) (uppers ts bs (under q k) k) (lowers ts bs lens (under q k) k))
+  valid_at k here bs w v a b =
       let h = sound k here in
       let c = choice k here in
-      question-valid ts sound few bs (within-late ts sound bs w) (under q k) k here lens choice m _ _ (get_or lens k 0) some most (omega arith) (omega arith) (omega arith) (omega arith) (omega arith)
+      question_valid ts sound few bs (within_late ts sound bs w) (under q k) k here lens choice m _ _ (get_or lens k 0) some most (omega arith) (omega arith) (omega arith) (omega arith) (omega arith)
 
-  pub bound-up : (k : ℕ) (xs bs : List ℕ) → k < length ts → BoundsWithin (length ts) (cost-of ts) (limit-of ts) xs → BoundsWithin (length ts) (cost-of ts) (limit-of ts) bs
-      → ((j : ℕ) → j < length ts → (j ≡ k → ⊥) → get_or xs j 0 ≤ get_or bs j 0) → (v w : ℕ) → cost-of ts k ≤ v → v ≤ w → w ≤ limit-of ts k
+  pub bound_up : (k : ℕ) (xs bs : List ℕ) → k < length ts → BoundsWithin (length ts) (cost_of ts) (limit_of ts) xs → BoundsWithin (length ts) (cost_of ts) (limit_of ts) bs
+      → ((j : ℕ) → j < length ts → (j ≡ k → ⊥) → get_or xs j 0 ≤ get_or bs j 0) → (v w : ℕ) → cost_of ts k ≤ v → v ≤ w → w ≤ limit_of ts k
       → bound_of sum m ts q lens k xs v ≤ bound_of sum m ts q lens k bs w
-  bound-up k xs bs here wx wb less v w a le b =
+  bound_up k xs bs here wx wb less v w a le b =
       let low = under q k in
       let f = get_or lens k 0 in
-      let e = cost-of ts k - (f - 1) in
+      let e = cost_of ts k - (f - 1) in
       let x = posed m (v - (f - 1)) e f (uppers ts xs low k) (lowers ts xs lens low k) in
       let y = posed m (w - (f - 1)) e f (uppers ts bs low k) (lowers ts bs lens low k) in
-      let hu = each-picked NoEarlier (above low k) (upper-rival ts xs) (upper-rival ts bs) (length ts)
+      let hu = each_picked NoEarlier (above low k) (upper_rival ts xs) (upper_rival ts bs) (length ts)
       (λ j s h. (less j s (eqb-false j k (not-true (eqb j k) (and_parts (not (eqb j k)) (not (among low j)) h).0)), refl)) in
-      let hl = each-picked NoSmaller (below low k) (lower-rival ts xs lens) (lower-rival ts bs lens) (length ts)
+      let hl = each_picked NoSmaller (below low k) (lower_rival ts xs lens) (lower_rival ts bs lens) (length ts)
       (λ j s h. (less j s (eqb-false j k (not-true (eqb j k) (and_parts (not (eqb j k)) (among low j) h).0)), omega arith, refl)) in
-      let h : sum x ≤ sum y = grows-together sum laws x y
-      (valid-at k here xs wx v a (omega arith)) (valid-at k here bs wb w (omega arith) b) (record { cores = refl; demand = refl; region = refl; window = omega arith; upper = hu; lower = hl }) in
+      let h : sum x ≤ sum y = grows_together sum laws x y
+      (valid_at k here xs wx v a (omega arith)) (valid_at k here bs wb w (omega arith) b) (record { cores = refl; demand = refl; region = refl; window = omega arith; upper = hu; lower = hl }) in
       omega (arith, div_grows (sum x) (sum y) m some h)
 
-  pub bound-floor : (k : ℕ) (bs : List ℕ) (v : ℕ) → cost-of ts k ≤ bound_of sum m ts q lens k bs v
-  bound-floor k bs v = omega arith
+  pub bound_floor : (k : ℕ) (bs : List ℕ) (v : ℕ) → cost_of ts k ≤ bound_of sum m ts q lens k bs v
+  bound_floor k bs v = omega arith
 
   -- the two ways to say that bounds solve the equations
-  pub solution-keeps : (bs : List ℕ) → Solution sum m ts q lens bs → (k : ℕ) → k < length ts → bound_of sum m ts q lens k bs (get_or bs k 0) ≡ get_or bs k 0
-  solution-keeps bs s k l =
+  pub solution_keeps : (bs : List ℕ) → Solution sum m ts q lens bs → (k : ℕ) → k < length ts → bound_of sum m ts q lens k bs (get_or bs k 0) ≡ get_or bs k 0
+  solution_keeps bs s k l =
       let r = s.solves k l in
       let f = get_or lens k 0 in
       let e : get_or bs k 0 - (f - 1) ≡ r.0 = omega (arith, r.1) in
-      ap (λ x. f - 1 + response-of sum m ts q lens k bs x) e ∙ omega (arith, r.1, r.2)
+      ap (λ x. f - 1 + response_of sum m ts q lens k bs x) e ∙ omega (arith, r.1, r.2)
 
-  pub keeps-solution : (bs : List ℕ) → BoundsWithin (length ts) (cost-of ts) (limit-of ts) bs → ((k : ℕ) → k < length ts → bound_of sum m ts q lens k bs (get_or bs k 0) ≡ get_or bs k 0) → Solution sum m ts q lens bs
-  keeps-solution bs w h = record {
+  pub keeps_solution : (bs : List ℕ) → BoundsWithin (length ts) (cost_of ts) (limit_of ts) bs → ((k : ℕ) → k < length ts → bound_of sum m ts q lens k bs (get_or bs k 0) ≡ get_or bs k 0) → Solution sum m ts q lens bs
+  keeps_solution bs w h = record {
     within = w;
     solves = λ k l.
         let f = get_or lens k 0 in
@@ -79,23 +79,23 @@ module _ (sum : Query → ℕ) (laws : Lawful sum) (m : ℕ) (some : 1 ≤ m) (m
         (get_or bs k 0 - (f - 1), omega arith, omega arith);
   }
 
-pub next-bound-grows : (sum : Query → ℕ) → Lawful sum → (m c f d : ℕ) (us ls : List Rival) → 1 ≤ m → m ≤ 16 → 1 ≤ f → f ≤ c → d ≤ 65535 → length us + length ls ≤ 31 → RivalsWithinLimits us → RivalsWithinLimits ls
-    → (v w : ℕ) → c ≤ v → v ≤ w → w ≤ d → next-bound sum m c f us ls v ≤ next-bound sum m c f us ls w
-next-bound-grows sum laws m c f d us ls a b e g h few hu hl v w i j k =
-    next-bound-widens sum laws m c f us ls a v w j
-    (valid-bound m c f d v us ls a b e g i (omega arith) h few hu hl) (valid-bound m c f d w us ls a b e g (omega arith) k h few hu hl)
+pub next_bound_grows : (sum : Query → ℕ) → Lawful sum → (m c f d : ℕ) (us ls : List Rival) → 1 ≤ m → m ≤ 16 → 1 ≤ f → f ≤ c → d ≤ 65535 → length us + length ls ≤ 31 → RivalsWithinLimits us → RivalsWithinLimits ls
+    → (v w : ℕ) → c ≤ v → v ≤ w → w ≤ d → next_bound sum m c f us ls v ≤ next_bound sum m c f us ls w
+next_bound_grows sum laws m c f d us ls a b e g h few hu hl v w i j k =
+    next_bound_widens sum laws m c f us ls a v w j
+    (valid_bound m c f d v us ls a b e g i (omega arith) h few hu hl) (valid_bound m c f d w us ls a b e g (omega arith) k h few hu hl)
 
 -- bounds that rose, and solve the equation at each place, are the least solution
-module _ (sum : Query → ℕ) (laws : Lawful sum) (m : ℕ) (some : 1 ≤ m) (most : m ≤ 16) (ts : List Task) (sound : TasksWithinLimits ts) (few : length ts ≤ 32) (q lens : List ℕ) (choice : IsChoice (cost-of ts) (length ts) lens) where
-  pub rising-least : IsOrder (length ts) q → (bs : List ℕ) → Rising (length ts) (cost-of ts) (limit-of ts) (bound_of sum m ts q lens) bs
+module _ (sum : Query → ℕ) (laws : Lawful sum) (m : ℕ) (some : 1 ≤ m) (most : m ≤ 16) (ts : List Task) (sound : TasksWithinLimits ts) (few : length ts ≤ 32) (q lens : List ℕ) (choice : IsChoice (cost_of ts) (length ts) lens) where
+  pub rising_least : IsOrder (length ts) q → (bs : List ℕ) → Rising (length ts) (cost_of ts) (limit_of ts) (bound_of sum m ts q lens) bs
       → ((i : ℕ) → i < length q → bound_of sum m ts q lens (get_or q i 0) bs (get_or bs (get_or q i 0) 0) ≡ get_or bs (get_or q i 0) 0) → LeastSolution sum m ts q lens bs
-  rising-least order bs r h = record {
-    solution = keeps-solution sum laws m some most ts sound few q lens choice bs r.within
+  rising_least order bs r h = record {
+    solution = keeps_solution sum laws m some most ts sound few q lens choice bs r.within
         (λ k l.
         let e = everyone (length ts) q order k l in
         subst (λ j. bound_of sum m ts q lens j bs (get_or bs j 0) ≡ get_or bs j 0) e.2 (h e.0 e.1));
-    least = λ o s. r.below o s.within (λ k l. let e = solution-keeps sum laws m some most ts sound few q lens choice o s k l in omega arith);
+    least = λ o s. r.below o s.within (λ k l. let e = solution_keeps sum laws m some most ts sound few q lens choice o s k l in omega arith);
   }
 
-  pub overrun-unsolved : Overrun sum m ts q lens → NoSolution sum m ts q lens
-  overrun-unsolved h o s = h o s.within (λ k l. let e = solution-keeps sum laws m some most ts sound few q lens choice o s k l in omega arith)
+  pub overrun_unsolved : Overrun sum m ts q lens → NoSolution sum m ts q lens
+  overrun_unsolved h o s = h o s.within (λ k l. let e = solution_keeps sum laws m some most ts sound few q lens choice o s k l in omega arith)

@@ -17,11 +17,11 @@ module _ (size : ℕ → ℕ) (n : ℕ) (ok : Test) (q : List ℕ) (order : IsOr
   pub all_pass : (lens : List ℕ) → ChoicePasses ok n q lens → PlacesPass ok q lens
   all_pass lens h p l = subst (λ low. ok low (get_or q p 0) lens (get_or lens (get_or q p 0) 0)) (lower p l) (h (get_or q p 0) (order.1 p l).0)
 
-  pub infeasible-all : InfeasibleByPlace size n ok q → NoChoicePasses size n ok q
-  infeasible-all h lens c p = h lens c (all_pass lens p)
+  pub infeasible_all : InfeasibleByPlace size n ok q → NoChoicePasses size n ok q
+  infeasible_all h lens c p = h lens c (all_pass lens p)
 
-  pub least-all : (lens : List ℕ) → LeastByPlace size n ok q lens → LeastChoice size n ok q lens
-  least-all lens h = record {
+  pub least_all : (lens : List ℕ) → LeastByPlace size n ok q lens → LeastChoice size n ok q lens
+  least_all lens h = record {
     choice = h.choice;
     pass = pass_all lens h.pass;
     least = λ o c p k l.
@@ -29,19 +29,19 @@ module _ (size : ℕ → ℕ) (n : ℕ) (ok : Test) (q : List ℕ) (order : IsOr
         subst (λ j. get_or lens j 0 ≤ get_or o j 0) e.2 (h.least o c (all_pass o p) e.0 e.1);
   }
 
-pub first-all : (size : ℕ → ℕ) (n : ℕ) (ok : Test) (q lens : List ℕ) → FirstByPlace size n ok q lens → FirstOrder size n ok q lens
-first-all size n ok q lens h = record {
+pub first_all : (size : ℕ → ℕ) (n : ℕ) (ok : Test) (q lens : List ℕ) → FirstByPlace size n ok q lens → FirstOrder size n ok q lens
+first_all size n ok q lens h = record {
   order = h.order;
-  lengths = least-all size n ok q h.order lens h.lengths;
-  first = λ o r b. infeasible-all size n ok o r (h.first o r b);
+  lengths = least_all size n ok q h.order lens h.lengths;
+  first = λ o r b. infeasible_all size n ok o r (h.first o r b);
 }
 
-cases-map : {X : Type 0} (r : Option X) (P P' : Type 0) (Q Q' : X → Type 0) → (P → P') → ((x : X) → Q x → Q' x) → MatchOption r P Q → MatchOption r P' Q'
-cases-map None P P' Q Q' f g h = f h
-cases-map (Some x) P P' Q Q' f g h = g x h
+cases_map : {X : Type 0} (r : Option X) (P P' : Type 0) (Q Q' : X → Type 0) → (P → P') → ((x : X) → Q x → Q' x) → MatchOption r P Q → MatchOption r P' Q'
+cases_map None P P' Q Q' f g h = f h
+cases_map (Some x) P P' Q Q' f g h = g x h
 
-pub answers-all : (size : ℕ → ℕ) (n : ℕ) (ok : Test) (q : List ℕ) → IsOrder n q → (r : Option (List ℕ)) → MatchOption r (InfeasibleByPlace size n ok q) (λ lens. LeastByPlace size n ok q lens)
+pub answers_all : (size : ℕ → ℕ) (n : ℕ) (ok : Test) (q : List ℕ) → IsOrder n q → (r : Option (List ℕ)) → MatchOption r (InfeasibleByPlace size n ok q) (λ lens. LeastByPlace size n ok q lens)
     → MatchOption r (NoChoicePasses size n ok q) (λ lens. LeastChoice size n ok q lens)
-answers-all size n ok q order r h =
-    cases-map r (InfeasibleByPlace size n ok q) (NoChoicePasses size n ok q) (λ lens. LeastByPlace size n ok q lens) (λ lens. LeastChoice size n ok q lens)
-    (infeasible-all size n ok q order) (least-all size n ok q order) h
+answers_all size n ok q order r h =
+    cases_map r (InfeasibleByPlace size n ok q) (NoChoicePasses size n ok q) (λ lens. LeastByPlace size n ok q lens) (λ lens. LeastChoice size n ok q lens)
+    (infeasible_all size n ok q order) (least_all size n ok q order) h

@@ -8,22 +8,22 @@ use Rattle.analysis.specs.Passing.{asked, Meets}
 use Rattle.analysis.specs.declared.task.Task.{Task}
 use Rattle.analysis.proofs.RivalLaws.{div_grows}
 
-asked-valid : (m : ℕ) (t : Task) (us ls : List Rival) → 1 ≤ m → m ≤ 16 → TaskWithinLimits t → length us + length ls ≤ 31 → RivalsWithinLimits us → RivalsWithinLimits ls → (f : ℕ) → 1 ≤ f → f ≤ t.cost → Valid (asked m t f us ls)
-asked-valid m t us ls a b s few hu hl f c d = record { times = (omega arith, omega arith, omega arith, c, omega arith); sizes = (a, b, few); uppers = hu; lowers = hl }
+asked_valid : (m : ℕ) (t : Task) (us ls : List Rival) → 1 ≤ m → m ≤ 16 → TaskWithinLimits t → length us + length ls ≤ 31 → RivalsWithinLimits us → RivalsWithinLimits ls → (f : ℕ) → 1 ≤ f → f ≤ t.cost → Valid (asked m t f us ls)
+asked_valid m t us ls a b s few hu hl f c d = record { times = (omega arith, omega arith, omega arith, c, omega arith); sizes = (a, b, few); uppers = hu; lowers = hl }
 
-moved-is : (m : ℕ) (t : Task) (us ls : List Rival) (f e : ℕ) → 1 ≤ f → f ≤ e → moved (asked m t f us ls) (e - f) ≡ asked m t e us ls
-moved-is m t us ls f e a b =
+moved_is : (m : ℕ) (t : Task) (us ls : List Rival) (f e : ℕ) → 1 ≤ f → f ≤ e → moved (asked m t f us ls) (e - f) ≡ asked m t e us ls
+moved_is m t us ls f e a b =
     let w : t.deadline - (f - 1) - (e - f) ≡ t.deadline - (e - 1) = omega arith in
     let d : t.cost - (f - 1) - (e - f) ≡ t.cost - (e - 1) = omega arith in
     let r : f + (e - f) ≡ e = omega arith in
     (λ i. posed m (w i) (d i) (r i) us ls)
 
-pub longer-meets : (sum : Query → ℕ) → Steady sum → (m : ℕ) (t : Task) (us ls : List Rival) → 1 ≤ m → m ≤ 16 → TaskWithinLimits t → length us + length ls ≤ 31 → RivalsWithinLimits us → RivalsWithinLimits ls
+pub longer_meets : (sum : Query → ℕ) → Steady sum → (m : ℕ) (t : Task) (us ls : List Rival) → 1 ≤ m → m ≤ 16 → TaskWithinLimits t → length us + length ls ≤ 31 → RivalsWithinLimits us → RivalsWithinLimits ls
     → (f e : ℕ) → 1 ≤ f → f ≤ e → e ≤ t.cost → Meets sum m t us ls f → Meets sum m t us ls e
-longer-meets sum steady m t us ls a b s few hu hl f e c d g h =
-    let eq = moved-is m t us ls f e c d in
-    let v = asked-valid m t us ls a b s few hu hl f c (omega arith) in
-    let w = asked-valid m t us ls a b s few hu hl e (omega arith) g in
+longer_meets sum steady m t us ls a b s few hu hl f e c d g h =
+    let eq = moved_is m t us ls f e c d in
+    let v = asked_valid m t us ls a b s few hu hl f c (omega arith) in
+    let w = asked_valid m t us ls a b s few hu hl e (omega arith) g in
     let le : sum (asked m t e us ls) ≤ sum (asked m t f us ls) =
     subst (λ (q : Query). sum q ≤ sum (asked m t f us ls)) eq (steady (asked m t f us ls) (e - f) v (subst (λ (q : Query). Valid q) (sym eq) w)) in
     omega (arith, div_grows (sum (asked m t e us ls)) (sum (asked m t f us ls)) m a le)

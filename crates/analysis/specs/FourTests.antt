@@ -2,12 +2,12 @@
 -- analysis, each with carry-in of all rivals and with limited carry-in.
 use Rattle.std.specs.Prelude.{◌≡◌, ℕ, zero, suc, ◌+◌, ◌-◌, ◌/◌, ◌<◌, ◌≤◌, min, Bool, cond, List, length, slice_index, slice_index_or}
 use Rattle.interference.specs.Shares.{workload}
-use Rattle.interference.specs.Sums.{greatest-total}
+use Rattle.interference.specs.Sums.{greatest_total}
 use Rattle.analysis.specs.declared.task.Task.{Task}
-use Rattle.analysis.specs.Rivals.{no-task, cost-of, limit-of, under, above, below, picked}
+use Rattle.analysis.specs.Rivals.{no_task, cost_of, limit_of, under, above, below, picked}
 
-abbrev pub period-of : List Task → ℕ → ℕ
-period-of ts j = (slice_index_or ts j no-task).period
+abbrev pub period_of : List Task → ℕ → ℕ
+period_of ts j = (slice_index_or ts j no_task).period
 
 -- in an order from the lowest place up: task j stands higher than task k, or lower
 abbrev pub higher : List ℕ → ℕ → ℕ → Bool
@@ -23,55 +23,55 @@ over p f (suc n) = over p f n + cond (p n) (f n) 0
 
 -- what task j executes at most in a window of l, capped: in a higher place with work carried in, where its latest finish
 -- is late j, and without; in a lower place by its region
-abbrev pub higher-carried : List Task → (ℕ → ℕ) → ℕ → ℕ → ℕ → ℕ
-higher-carried ts late l cap j = min (workload (cost-of ts j) (period-of ts j) (l + late j - cost-of ts j)) cap
+abbrev pub higher_carried : List Task → (ℕ → ℕ) → ℕ → ℕ → ℕ → ℕ
+higher_carried ts late l cap j = min (workload (cost_of ts j) (period_of ts j) (l + late j - cost_of ts j)) cap
 
-abbrev pub higher-plain : List Task → ℕ → ℕ → ℕ → ℕ
-higher-plain ts l cap j = min (workload (cost-of ts j) (period-of ts j) l) cap
+abbrev pub higher_plain : List Task → ℕ → ℕ → ℕ → ℕ
+higher_plain ts l cap j = min (workload (cost_of ts j) (period_of ts j) l) cap
 
-abbrev pub lower-carried : List Task → List ℕ → (ℕ → ℕ) → ℕ → ℕ → ℕ → ℕ
-lower-carried ts lens late l cap j = min (workload (slice_index lens j - 1) (period-of ts j) (l + late j - (slice_index lens j - 1))) cap
+abbrev pub lower_carried : List Task → List ℕ → (ℕ → ℕ) → ℕ → ℕ → ℕ → ℕ
+lower_carried ts lens late l cap j = min (workload (slice_index lens j - 1) (period_of ts j) (l + late j - (slice_index lens j - 1))) cap
 
 -- what the others take from task k in a window of l of which it wants e
-abbrev pub full-interference : List Task → List ℕ → List ℕ → ℕ → (ℕ → ℕ) → ℕ → ℕ → ℕ
-full-interference ts q lens k late l e =
-    over (higher q k) (higher-carried ts late l (l - e + 1)) (length ts) + over (lower q k) (lower-carried ts lens late l (l - e + 1)) (length ts)
+abbrev pub full_interference : List Task → List ℕ → List ℕ → ℕ → (ℕ → ℕ) → ℕ → ℕ → ℕ
+full_interference ts q lens k late l e =
+    over (higher q k) (higher_carried ts late l (l - e + 1)) (length ts) + over (lower q k) (lower_carried ts lens late l (l - e + 1)) (length ts)
 
 -- the same where at most m - 1 tasks in higher places carry work in, with the push-through of the task itself
-abbrev pub limited-interference : ℕ → List Task → List ℕ → List ℕ → ℕ → (ℕ → ℕ) → ℕ → ℕ → ℕ
-limited-interference m ts q lens k late l e =
-    over (higher q k) (higher-plain ts l (l - e + 1)) (length ts) + over (lower q k) (lower-carried ts lens late l (l - e + 1)) (length ts) + (slice_index lens k - 1)
-    + greatest-total (λ j. higher-carried ts late l (l - e + 1) j - higher-plain ts l (l - e + 1) j) (m - 1) (picked (higher q k) (λ j. j) (length ts))
+abbrev pub limited_interference : ℕ → List Task → List ℕ → List ℕ → ℕ → (ℕ → ℕ) → ℕ → ℕ → ℕ
+limited_interference m ts q lens k late l e =
+    over (higher q k) (higher_plain ts l (l - e + 1)) (length ts) + over (lower q k) (lower_carried ts lens late l (l - e + 1)) (length ts) + (slice_index lens k - 1)
+    + greatest_total (λ j. higher_carried ts late l (l - e + 1) j - higher_plain ts l (l - e + 1) j) (m - 1) (picked (higher q k) (λ j. j) (length ts))
 
 -- what task k executes before the last tick of its region can begin, and when that must be done
-abbrev pub before-region : List Task → List ℕ → ℕ → ℕ
-before-region ts lens k = cost-of ts k - (slice_index lens k - 1)
+abbrev pub before_region : List Task → List ℕ → ℕ → ℕ
+before_region ts lens k = cost_of ts k - (slice_index lens k - 1)
 
-abbrev pub start-limit : List Task → List ℕ → ℕ → ℕ
-start-limit ts lens k = limit-of ts k - (slice_index lens k - 1)
+abbrev pub start_limit : List Task → List ℕ → ℕ → ℕ
+start_limit ts lens k = limit_of ts k - (slice_index lens k - 1)
 
 -- Deadline analysis: every rival finishes by its deadline at the latest.
 abbrev pub DeadlineAnalysis : ℕ → List Task → List ℕ → List ℕ → ℕ → Type 0
 DeadlineAnalysis m ts q lens k =
-    before-region ts lens k + full-interference ts q lens k (limit-of ts) (start-limit ts lens k) (before-region ts lens k) / m ≤ start-limit ts lens k
+    before_region ts lens k + full_interference ts q lens k (limit_of ts) (start_limit ts lens k) (before_region ts lens k) / m ≤ start_limit ts lens k
 
 abbrev pub LimitedDeadlineAnalysis : ℕ → List Task → List ℕ → List ℕ → ℕ → Type 0
 LimitedDeadlineAnalysis m ts q lens k =
-    before-region ts lens k + limited-interference m ts q lens k (limit-of ts) (start-limit ts lens k) (before-region ts lens k) / m ≤ start-limit ts lens k
+    before_region ts lens k + limited_interference m ts q lens k (limit_of ts) (start_limit ts lens k) (before_region ts lens k) / m ≤ start_limit ts lens k
 
 -- Response time analysis: every rival finishes by its own bound at the latest.
 abbrev pub ResponseTime : ℕ → List Task → List ℕ → List ℕ → ((ℕ → ℕ) → ℕ → ℕ) → ℕ → Type 0
 ResponseTime m ts lens bounds taken k =
-    (cost-of ts k ≤ slice_index bounds k) × (slice_index bounds k ≤ limit-of ts k)
-    × ((r : ℕ) × (slice_index bounds k ≡ r + (slice_index lens k - 1)) × (r ≡ before-region ts lens k + taken (λ j. slice_index bounds j) r / m))
+    (cost_of ts k ≤ slice_index bounds k) × (slice_index bounds k ≤ limit_of ts k)
+    × ((r : ℕ) × (slice_index bounds k ≡ r + (slice_index lens k - 1)) × (r ≡ before_region ts lens k + taken (λ j. slice_index bounds j) r / m))
 
 abbrev pub ResponseTimeAnalysis : ℕ → List Task → List ℕ → List ℕ → List ℕ → Type 0
 ResponseTimeAnalysis m ts q lens bounds = (k : ℕ) → k < length ts
-    → ResponseTime m ts lens bounds (λ late r. full-interference ts q lens k late r (before-region ts lens k)) k
+    → ResponseTime m ts lens bounds (λ late r. full_interference ts q lens k late r (before_region ts lens k)) k
 
 abbrev pub LimitedResponseTimeAnalysis : ℕ → List Task → List ℕ → List ℕ → List ℕ → Type 0
 LimitedResponseTimeAnalysis m ts q lens bounds = (k : ℕ) → k < length ts
-    → ResponseTime m ts lens bounds (λ late r. limited-interference m ts q lens k late r (before-region ts lens k)) k
+    → ResponseTime m ts lens bounds (λ late r. limited_interference m ts q lens k late r (before_region ts lens k)) k
 
 -- each follows from the other
 abbrev pub Equivalent : Type 0 → Type 0 → Type 0

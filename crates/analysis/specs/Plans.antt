@@ -2,7 +2,7 @@
 use Rattle.std.specs.Prelude.{◌≡◌, ℕ, ◌+◌, ◌<◌, ◌≤◌, false, ◌⊎◌, List, [], ◌∷◌, length, take, slice_index}
 use Rattle.interference.specs.Questions.{Query}
 use Rattle.analysis.specs.declared.task.Task.{Task}
-use Rattle.analysis.specs.Rivals.{cost-of, among, under}
+use Rattle.analysis.specs.Rivals.{cost_of, among, under}
 use Rattle.analysis.specs.Passing.{PassesOver}
 
 -- numbers below n, none of them twice
@@ -48,13 +48,13 @@ pub record FirstOrder (size : ℕ → ℕ) (n : ℕ) (ok : Test) (q lens : List 
 
 -- The same of the tasks ts on m cores, under a rule with this sum.
 abbrev pub LeastLengths : (Query → ℕ) → ℕ → List Task → List ℕ → List ℕ → Type 0
-LeastLengths sum m ts q lens = LeastChoice (cost-of ts) (length ts) (PassesOver sum m ts) q lens
+LeastLengths sum m ts q lens = LeastChoice (cost_of ts) (length ts) (PassesOver sum m ts) q lens
 
 abbrev pub NoLengths : (Query → ℕ) → ℕ → List Task → List ℕ → Type 0
-NoLengths sum m ts q = NoChoicePasses (cost-of ts) (length ts) (PassesOver sum m ts) q
+NoLengths sum m ts q = NoChoicePasses (cost_of ts) (length ts) (PassesOver sum m ts) q
 
 abbrev pub FirstPlan : (Query → ℕ) → ℕ → List Task → List ℕ → List ℕ → Type 0
-FirstPlan sum m ts q lens = FirstOrder (cost-of ts) (length ts) (PassesOver sum m ts) q lens
+FirstPlan sum m ts q lens = FirstOrder (cost_of ts) (length ts) (PassesOver sum m ts) q lens
 
 abbrev pub NoPlan : (Query → ℕ) → ℕ → List Task → Type 0
 NoPlan sum m ts = (q : List ℕ) → IsOrder (length ts) q → NoLengths sum m ts q

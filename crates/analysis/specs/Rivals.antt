@@ -6,27 +6,27 @@ use Rattle.interference.specs.declared.rival.Rival.{Rival}
 use Rattle.analysis.specs.declared.task.Task.{Task}
 
 -- read past the end of a list
-abbrev pub no-task : Task
-no-task = record { cost = 0; deadline = 0; period = 0 }
+abbrev pub no_task : Task
+no_task = record { cost = 0; deadline = 0; period = 0 }
 
-abbrev pub cost-of : List Task → ℕ → ℕ
-cost-of ts k = (slice_index_or ts k no-task).cost
+abbrev pub cost_of : List Task → ℕ → ℕ
+cost_of ts k = (slice_index_or ts k no_task).cost
 
 abbrev pub TaskWithinLimits : Task → Type 0
 TaskWithinLimits t = (1 ≤ t.cost) × (t.cost ≤ t.deadline) × (t.deadline ≤ t.period) × (t.period ≤ 65535)
 
 abbrev pub TasksWithinLimits : List Task → Type 0
-TasksWithinLimits ts = (k : ℕ) → k < length ts → TaskWithinLimits (slice_index_or ts k no-task)
+TasksWithinLimits ts = (k : ℕ) → k < length ts → TaskWithinLimits (slice_index_or ts k no_task)
 
 -- when a job must be finished at the latest, after its release
-abbrev pub finish-limit : Task → ℕ
-finish-limit t = t.deadline
+abbrev pub finish_limit : Task → ℕ
+finish_limit t = t.deadline
 
-abbrev pub limit-of : List Task → ℕ → ℕ
-limit-of ts k = finish-limit (slice_index_or ts k no-task)
+abbrev pub limit_of : List Task → ℕ → ℕ
+limit_of ts k = finish_limit (slice_index_or ts k no_task)
 
-abbrev pub finish-limits : List Task → List ℕ
-finish-limits ts = map finish-limit ts
+abbrev pub finish_limits : List Task → List ℕ
+finish_limits ts = map finish_limit ts
 
 abbrev pub among : List ℕ → ℕ → Bool
 among [] j = false
@@ -50,19 +50,19 @@ picked p g zero = []
 picked p g (suc n) = picked p g n ++ cond (p n) (g n ∷ []) []
 
 -- what a task is to another one: it executes c, and finishes by j
-abbrev pub rival-of : Task → ℕ → ℕ → Rival
-rival-of t c j = record { cost = c; period = t.period; finish = j }
+abbrev pub rival_of : Task → ℕ → ℕ → Rival
+rival_of t c j = record { cost = c; period = t.period; finish = j }
 
 -- in a higher place all of its cost counts, in a lower one what its region can block for
-abbrev pub upper-rival : List Task → List ℕ → ℕ → Rival
-upper-rival ts late j = rival-of (slice_index_or ts j no-task) (cost-of ts j) (slice_index late j)
+abbrev pub upper_rival : List Task → List ℕ → ℕ → Rival
+upper_rival ts late j = rival_of (slice_index_or ts j no_task) (cost_of ts j) (slice_index late j)
 
-abbrev pub lower-rival : List Task → List ℕ → List ℕ → ℕ → Rival
-lower-rival ts late lens j = rival-of (slice_index_or ts j no-task) (slice_index lens j - 1) (slice_index late j)
+abbrev pub lower_rival : List Task → List ℕ → List ℕ → ℕ → Rival
+lower_rival ts late lens j = rival_of (slice_index_or ts j no_task) (slice_index lens j - 1) (slice_index late j)
 
 -- the rivals of task k, where the tasks of `low` stand below it, with the latest finishes and lengths of all tasks
 abbrev pub uppers : List Task → List ℕ → List ℕ → ℕ → List Rival
-uppers ts late low k = picked (above low k) (upper-rival ts late) (length ts)
+uppers ts late low k = picked (above low k) (upper_rival ts late) (length ts)
 
 abbrev pub lowers : List Task → List ℕ → List ℕ → List ℕ → ℕ → List Rival
-lowers ts late lens low k = picked (below low k) (lower-rival ts late lens) (length ts)
+lowers ts late lens low k = picked (below low k) (lower_rival ts late lens) (length ts)

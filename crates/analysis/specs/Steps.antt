@@ -2,7 +2,7 @@
 use Rattle.std.specs.Prelude.{◌≡◌, ℕ, zero, suc, ◌+◌, ◌<◌, ◌≤◌, false, List, length, take, Option, MatchOption, slice_index}
 use Rattle.interference.specs.Questions.{Query}
 use Rattle.analysis.specs.declared.task.Task.{Task}
-use Rattle.analysis.specs.Rivals.{cost-of, limit-of, among}
+use Rattle.analysis.specs.Rivals.{cost_of, limit_of, among}
 use Rattle.analysis.specs.Plans.{Named, IsOrder, IsChoice, Test, Before}
 use Rattle.analysis.specs.Bounds.{bound_of, BoundsWithin}
 
@@ -63,7 +63,7 @@ pub record Rising (n : ℕ) (low high : ℕ → ℕ) (g : ℕ → List ℕ → �
 
 -- no bounds within the limits are at least what their equations give
 abbrev pub Overrun : (Query → ℕ) → ℕ → List Task → List ℕ → List ℕ → Type 0
-Overrun sum m ts q lens = (bounds : List ℕ) → BoundsWithin (length ts) (cost-of ts) (limit-of ts) bounds
+Overrun sum m ts q lens = (bounds : List ℕ) → BoundsWithin (length ts) (cost_of ts) (limit_of ts) bounds
     → ((k : ℕ) → k < length ts → bound_of sum m ts q lens k bounds (slice_index bounds k) ≤ slice_index bounds k) → ⊥
 
 -- the entries of an array past the first n are v

@@ -1,6 +1,6 @@
 ghost use Rattle.std.specs.Prelude.{◌≡◌, ℕ, ◌<◌, ◌≤◌, length, MatchBool, MatchOption, ◌≢◌, slice_index, slice_set};
-ghost use Rattle.analysis.specs.Rivals.{finish-limit, cost-of, limit-of, uppers, lowers};
-ghost use Rattle.analysis.specs.Bounds.{next-bound, bound_of, BoundsWithin, LeastSolution, NoSolution};
+ghost use Rattle.analysis.specs.Rivals.{finish_limit, cost_of, limit_of, uppers, lowers};
+ghost use Rattle.analysis.specs.Bounds.{next_bound, bound_of, BoundsWithin, LeastSolution, NoSolution};
 ghost use Rattle.analysis.specs.Steps.{FirstKept, Rising, Overrun, total, Padded};
 
 use crate::passing::next;
@@ -36,7 +36,7 @@ pub fn seek_bounds<R: Rule>(rule: &R, tasks: &Arranged) -> Option<[u32; 32]>
 fn fill_costs(tasks: &[Task], out: &mut [u32; 32])
     requires few { length tasks.now ≤ 32 }
     requires padded { Padded (length tasks.now) 0 out.old }
-    ensures costs { (k : ℕ) → k < length tasks.now → slice_index out.new k ≡ cost-of tasks.now k }
+    ensures costs { (k : ℕ) → k < length tasks.now → slice_index out.new k ≡ cost_of tasks.now k }
     ensures padded { Padded (length tasks.now) 0 out.new }
 {
     for (i, t) in tasks.iter().enumerate() {
@@ -47,10 +47,10 @@ fn fill_costs(tasks: &[Task], out: &mut [u32; 32])
 // Takes each task, highest place first, to the least solution of its own equation under the bounds of the others at
 // that moment, and says whether a bound changed. None where a task has no such solution within its limit.
 fn sweep<R: Rule>(rule: &R, tasks: &Arranged, bounds: &mut [u32; 32]) -> Option<bool>
-    requires rising { Rising (length tasks.now.ordered.set.tasks.now) (cost-of tasks.now.ordered.set.tasks.now) (limit-of tasks.now.ordered.set.tasks.now) (bound_of (R.Rule.meaning rule.now) tasks.now.ordered.set.cores tasks.now.ordered.set.tasks.now tasks.now.ordered.order.now tasks.now.lengths.now) bounds.old }
+    requires rising { Rising (length tasks.now.ordered.set.tasks.now) (cost_of tasks.now.ordered.set.tasks.now) (limit_of tasks.now.ordered.set.tasks.now) (bound_of (R.Rule.meaning rule.now) tasks.now.ordered.set.cores tasks.now.ordered.set.tasks.now tasks.now.ordered.order.now tasks.now.lengths.now) bounds.old }
     requires padded { Padded (length tasks.now.ordered.set.tasks.now) 0 bounds.old }
     ensures { MatchOption result (Overrun (R.Rule.meaning rule.now) tasks.now.ordered.set.cores tasks.now.ordered.set.tasks.now tasks.now.ordered.order.now tasks.now.lengths.now)
-        (λ changed. Rising (length tasks.now.ordered.set.tasks.now) (cost-of tasks.now.ordered.set.tasks.now) (limit-of tasks.now.ordered.set.tasks.now) (bound_of (R.Rule.meaning rule.now) tasks.now.ordered.set.cores tasks.now.ordered.set.tasks.now tasks.now.ordered.order.now tasks.now.lengths.now) bounds.new
+        (λ changed. Rising (length tasks.now.ordered.set.tasks.now) (cost_of tasks.now.ordered.set.tasks.now) (limit_of tasks.now.ordered.set.tasks.now) (bound_of (R.Rule.meaning rule.now) tasks.now.ordered.set.cores tasks.now.ordered.set.tasks.now tasks.now.ordered.order.now tasks.now.lengths.now) bounds.new
         × Padded (length tasks.now.ordered.set.tasks.now) 0 bounds.new
         × MatchBool changed (total (λ k. slice_index bounds.old k) (length tasks.now.ordered.set.tasks.now) < total (λ k. slice_index bounds.new k) (length tasks.now.ordered.set.tasks.now))
         (LeastSolution (R.Rule.meaning rule.now) tasks.now.ordered.set.cores tasks.now.ordered.set.tasks.now tasks.now.ordered.order.now tasks.now.lengths.now bounds.new)) }
@@ -68,10 +68,10 @@ fn sweep<R: Rule>(rule: &R, tasks: &Arranged, bounds: &mut [u32; 32]) -> Option<
 // Takes the task at a place to the least solution of its own equation, and says whether that changed its bound.
 fn raise<R: Rule>(rule: &R, tasks: &Arranged, p: usize, bounds: &mut [u32; 32]) -> Option<bool>
     requires place { p < length tasks.now.ordered.order.now }
-    requires rising { Rising (length tasks.now.ordered.set.tasks.now) (cost-of tasks.now.ordered.set.tasks.now) (limit-of tasks.now.ordered.set.tasks.now) (bound_of (R.Rule.meaning rule.now) tasks.now.ordered.set.cores tasks.now.ordered.set.tasks.now tasks.now.ordered.order.now tasks.now.lengths.now) bounds.old }
+    requires rising { Rising (length tasks.now.ordered.set.tasks.now) (cost_of tasks.now.ordered.set.tasks.now) (limit_of tasks.now.ordered.set.tasks.now) (bound_of (R.Rule.meaning rule.now) tasks.now.ordered.set.cores tasks.now.ordered.set.tasks.now tasks.now.ordered.order.now tasks.now.lengths.now) bounds.old }
     requires padded { Padded (length tasks.now.ordered.set.tasks.now) 0 bounds.old }
     ensures { MatchOption result (Overrun (R.Rule.meaning rule.now) tasks.now.ordered.set.cores tasks.now.ordered.set.tasks.now tasks.now.ordered.order.now tasks.now.lengths.now)
-        (λ raised. Rising (length tasks.now.ordered.set.tasks.now) (cost-of tasks.now.ordered.set.tasks.now) (limit-of tasks.now.ordered.set.tasks.now) (bound_of (R.Rule.meaning rule.now) tasks.now.ordered.set.cores tasks.now.ordered.set.tasks.now tasks.now.ordered.order.now tasks.now.lengths.now) bounds.new
+        (λ raised. Rising (length tasks.now.ordered.set.tasks.now) (cost_of tasks.now.ordered.set.tasks.now) (limit_of tasks.now.ordered.set.tasks.now) (bound_of (R.Rule.meaning rule.now) tasks.now.ordered.set.cores tasks.now.ordered.set.tasks.now tasks.now.ordered.order.now tasks.now.lengths.now) bounds.new
         × Padded (length tasks.now.ordered.set.tasks.now) 0 bounds.new
         × MatchBool raised (total (λ k. slice_index bounds.old k) (length tasks.now.ordered.set.tasks.now) < total (λ k. slice_index bounds.new k) (length tasks.now.ordered.set.tasks.now))
         ((bounds.new ≡ bounds.old) × (bound_of (R.Rule.meaning rule.now) tasks.now.ordered.set.cores tasks.now.ordered.set.tasks.now tasks.now.ordered.order.now tasks.now.lengths.now (slice_index tasks.now.ordered.order.now p) bounds.new (slice_index bounds.new (slice_index tasks.now.ordered.order.now p)) ≡ slice_index bounds.new (slice_index tasks.now.ordered.order.now p)))) }
@@ -105,12 +105,12 @@ fn place_bound<R: Rule>(
     k: usize,
 ) -> Option<u32>
     requires late { length tasks.now.ordered.set.tasks.now ≤ length bounds.now }
-    requires within { BoundsWithin (length tasks.now.ordered.set.tasks.now) (cost-of tasks.now.ordered.set.tasks.now) (limit-of tasks.now.ordered.set.tasks.now) bounds.now }
+    requires within { BoundsWithin (length tasks.now.ordered.set.tasks.now) (cost_of tasks.now.ordered.set.tasks.now) (limit_of tasks.now.ordered.set.tasks.now) bounds.now }
     requires here { k < length tasks.now.ordered.set.tasks.now }
-    requires rises { slice_index bounds.now k ≤ next-bound (R.Rule.meaning rule.now) tasks.now.ordered.set.cores (cost-of tasks.now.ordered.set.tasks.now k) (slice_index tasks.now.lengths.now k) (uppers tasks.now.ordered.set.tasks.now bounds.now low.now k) (lowers tasks.now.ordered.set.tasks.now bounds.now tasks.now.lengths.now low.now k) (slice_index bounds.now k) }
-    requires lowest { (v : ℕ) → cost-of tasks.now.ordered.set.tasks.now k ≤ v → v ≤ limit-of tasks.now.ordered.set.tasks.now k → next-bound (R.Rule.meaning rule.now) tasks.now.ordered.set.cores (cost-of tasks.now.ordered.set.tasks.now k) (slice_index tasks.now.lengths.now k) (uppers tasks.now.ordered.set.tasks.now bounds.now low.now k) (lowers tasks.now.ordered.set.tasks.now bounds.now tasks.now.lengths.now low.now k) v ≤ v → slice_index bounds.now k ≤ v }
-    ensures { FirstKept (next-bound (R.Rule.meaning rule.now) tasks.now.ordered.set.cores (cost-of tasks.now.ordered.set.tasks.now k) (slice_index tasks.now.lengths.now k) (uppers tasks.now.ordered.set.tasks.now bounds.now low.now k) (lowers tasks.now.ordered.set.tasks.now bounds.now tasks.now.lengths.now low.now k))
-        (cost-of tasks.now.ordered.set.tasks.now k) (limit-of tasks.now.ordered.set.tasks.now k) result }
+    requires rises { slice_index bounds.now k ≤ next_bound (R.Rule.meaning rule.now) tasks.now.ordered.set.cores (cost_of tasks.now.ordered.set.tasks.now k) (slice_index tasks.now.lengths.now k) (uppers tasks.now.ordered.set.tasks.now bounds.now low.now k) (lowers tasks.now.ordered.set.tasks.now bounds.now tasks.now.lengths.now low.now k) (slice_index bounds.now k) }
+    requires lowest { (v : ℕ) → cost_of tasks.now.ordered.set.tasks.now k ≤ v → v ≤ limit_of tasks.now.ordered.set.tasks.now k → next_bound (R.Rule.meaning rule.now) tasks.now.ordered.set.cores (cost_of tasks.now.ordered.set.tasks.now k) (slice_index tasks.now.lengths.now k) (uppers tasks.now.ordered.set.tasks.now bounds.now low.now k) (lowers tasks.now.ordered.set.tasks.now bounds.now tasks.now.lengths.now low.now k) v ≤ v → slice_index bounds.now k ≤ v }
+    ensures { FirstKept (next_bound (R.Rule.meaning rule.now) tasks.now.ordered.set.cores (cost_of tasks.now.ordered.set.tasks.now k) (slice_index tasks.now.lengths.now k) (uppers tasks.now.ordered.set.tasks.now bounds.now low.now k) (lowers tasks.now.ordered.set.tasks.now bounds.now tasks.now.lengths.now low.now k))
+        (cost_of tasks.now.ordered.set.tasks.now k) (limit_of tasks.now.ordered.set.tasks.now k) result }
 {
     let mut upper = [NOBODY; 32];
     let mut lower = [NOBODY; 32];
@@ -129,10 +129,10 @@ fn place_bound<R: Rule>(
 // The least solution of the task's own equation, from a bound that is no greater and that the equation does not lower.
 fn own_bound<R: Rule>(rule: &R, place: &Place, f: u32, from: u32) -> Option<u32>
     requires region { (1 ≤ f) × (f ≤ place.now.task.cost) }
-    requires bound { (place.now.task.cost ≤ from) × (from ≤ finish-limit place.now.task) }
-    requires rises { from ≤ next-bound (R.Rule.meaning rule.now) place.now.cores place.now.task.cost f place.now.upper.now place.now.lower.now from }
-    requires lowest { (v : ℕ) → place.now.task.cost ≤ v → v ≤ finish-limit place.now.task → next-bound (R.Rule.meaning rule.now) place.now.cores place.now.task.cost f place.now.upper.now place.now.lower.now v ≤ v → from ≤ v }
-    ensures { FirstKept (next-bound (R.Rule.meaning rule.now) place.now.cores place.now.task.cost f place.now.upper.now place.now.lower.now) place.now.task.cost (finish-limit place.now.task) result }
+    requires bound { (place.now.task.cost ≤ from) × (from ≤ finish_limit place.now.task) }
+    requires rises { from ≤ next_bound (R.Rule.meaning rule.now) place.now.cores place.now.task.cost f place.now.upper.now place.now.lower.now from }
+    requires lowest { (v : ℕ) → place.now.task.cost ≤ v → v ≤ finish_limit place.now.task → next_bound (R.Rule.meaning rule.now) place.now.cores place.now.task.cost f place.now.upper.now place.now.lower.now v ≤ v → from ≤ v }
+    ensures { FirstKept (next_bound (R.Rule.meaning rule.now) place.now.cores place.now.task.cost f place.now.upper.now place.now.lower.now) place.now.task.cost (finish_limit place.now.task) result }
 {
     let most = limit(&place.task);
     let mut b = from;

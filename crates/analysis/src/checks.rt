@@ -1,5 +1,5 @@
 ghost use Rattle.std.specs.Prelude.{◌≡◌, ℕ, ◌<◌, ◌≤◌, false, length, MatchBool};
-ghost use Rattle.analysis.specs.Rivals.{TaskWithinLimits, TasksWithinLimits, cost-of, among};
+ghost use Rattle.analysis.specs.Rivals.{TaskWithinLimits, TasksWithinLimits, cost_of, among};
 ghost use Rattle.analysis.specs.Plans.{IsOrder, IsChoice};
 
 use crate::rivals::stands;
@@ -51,8 +51,8 @@ pub fn is_order(count: usize, order: &[usize]) -> bool
 
 // Whether a list gives each task a length from 1 to its cost.
 pub fn is_choice(tasks: &[Task], lengths: &[u32]) -> bool
-    ensures { MatchBool result ((length tasks.now ≤ length lengths.now) × IsChoice (cost-of tasks.now) (length tasks.now) lengths.now)
-        ((length tasks.now ≤ length lengths.now) × IsChoice (cost-of tasks.now) (length tasks.now) lengths.now → ⊥) }
+    ensures { MatchBool result ((length tasks.now ≤ length lengths.now) × IsChoice (cost_of tasks.now) (length tasks.now) lengths.now)
+        ((length tasks.now ≤ length lengths.now) × IsChoice (cost_of tasks.now) (length tasks.now) lengths.now → ⊥) }
 {
     if tasks.len() > lengths.len() {
         return false;

@@ -1,5 +1,5 @@
 ghost use Rattle.std.specs.Prelude.{ℕ, ◌<◌, ◌≤◌, List, length, MatchBool};
-ghost use Rattle.interference.specs.Sums.{full-sum, limited-sum};
+ghost use Rattle.interference.specs.Sums.{full_sum, limited_sum};
 ghost use Rattle.analysis.specs.declared.task.Task.{Task as Row};
 ghost use Rattle.analysis.specs.Passing.{Passes};
 ghost use Rattle.analysis.specs.Bounds.{Solution};
@@ -14,16 +14,16 @@ use interference::limited::Limited;
 pub fn deadline_analysis(tasks: &Arranged, k: usize) -> bool
     ensures decides { MatchBool result ((k < length tasks.now.ordered.set.tasks.now) × DeadlineAnalysis tasks.now.ordered.set.cores tasks.now.ordered.set.tasks.now tasks.now.ordered.order.now tasks.now.lengths.now k)
         ((k < length tasks.now.ordered.set.tasks.now) × DeadlineAnalysis tasks.now.ordered.set.cores tasks.now.ordered.set.tasks.now tasks.now.ordered.order.now tasks.now.lengths.now k → ⊥) }
-    ensures general { (m : ℕ) (ts : List Row) (q lens : List ℕ) (j : ℕ) → Equivalent (Passes full-sum m ts q lens j) (DeadlineAnalysis m ts q lens j) }
+    ensures general { (m : ℕ) (ts : List Row) (q lens : List ℕ) (j : ℕ) → Equivalent (Passes full_sum m ts q lens j) (DeadlineAnalysis m ts q lens j) }
 {
     as_deadline_analysis(tasks, k, task_passes(&Full, tasks, k))
 }
 
 fn as_deadline_analysis(tasks: &Arranged, k: usize, passes: bool) -> bool
-    requires { MatchBool passes ((k < length tasks.now.ordered.set.tasks.now) × Passes full-sum tasks.now.ordered.set.cores tasks.now.ordered.set.tasks.now tasks.now.ordered.order.now tasks.now.lengths.now k) ((k < length tasks.now.ordered.set.tasks.now) × Passes full-sum tasks.now.ordered.set.cores tasks.now.ordered.set.tasks.now tasks.now.ordered.order.now tasks.now.lengths.now k → ⊥) }
+    requires { MatchBool passes ((k < length tasks.now.ordered.set.tasks.now) × Passes full_sum tasks.now.ordered.set.cores tasks.now.ordered.set.tasks.now tasks.now.ordered.order.now tasks.now.lengths.now k) ((k < length tasks.now.ordered.set.tasks.now) × Passes full_sum tasks.now.ordered.set.cores tasks.now.ordered.set.tasks.now tasks.now.ordered.order.now tasks.now.lengths.now k → ⊥) }
     ensures decides { MatchBool result ((k < length tasks.now.ordered.set.tasks.now) × DeadlineAnalysis tasks.now.ordered.set.cores tasks.now.ordered.set.tasks.now tasks.now.ordered.order.now tasks.now.lengths.now k)
         ((k < length tasks.now.ordered.set.tasks.now) × DeadlineAnalysis tasks.now.ordered.set.cores tasks.now.ordered.set.tasks.now tasks.now.ordered.order.now tasks.now.lengths.now k → ⊥) }
-    ensures general { (m : ℕ) (ts : List Row) (q lens : List ℕ) (j : ℕ) → Equivalent (Passes full-sum m ts q lens j) (DeadlineAnalysis m ts q lens j) }
+    ensures general { (m : ℕ) (ts : List Row) (q lens : List ℕ) (j : ℕ) → Equivalent (Passes full_sum m ts q lens j) (DeadlineAnalysis m ts q lens j) }
 {
     passes
 }
@@ -32,16 +32,16 @@ fn as_deadline_analysis(tasks: &Arranged, k: usize, passes: bool) -> bool
 pub fn limited_deadline_analysis(tasks: &Arranged, k: usize) -> bool
     ensures decides { MatchBool result ((k < length tasks.now.ordered.set.tasks.now) × LimitedDeadlineAnalysis tasks.now.ordered.set.cores tasks.now.ordered.set.tasks.now tasks.now.ordered.order.now tasks.now.lengths.now k)
         ((k < length tasks.now.ordered.set.tasks.now) × LimitedDeadlineAnalysis tasks.now.ordered.set.cores tasks.now.ordered.set.tasks.now tasks.now.ordered.order.now tasks.now.lengths.now k → ⊥) }
-    ensures general { (m : ℕ) (ts : List Row) (q lens : List ℕ) (j : ℕ) → Equivalent (Passes limited-sum m ts q lens j) (LimitedDeadlineAnalysis m ts q lens j) }
+    ensures general { (m : ℕ) (ts : List Row) (q lens : List ℕ) (j : ℕ) → Equivalent (Passes limited_sum m ts q lens j) (LimitedDeadlineAnalysis m ts q lens j) }
 {
     as_limited_deadline_analysis(tasks, k, task_passes(&Limited, tasks, k))
 }
 
 fn as_limited_deadline_analysis(tasks: &Arranged, k: usize, passes: bool) -> bool
-    requires { MatchBool passes ((k < length tasks.now.ordered.set.tasks.now) × Passes limited-sum tasks.now.ordered.set.cores tasks.now.ordered.set.tasks.now tasks.now.ordered.order.now tasks.now.lengths.now k) ((k < length tasks.now.ordered.set.tasks.now) × Passes limited-sum tasks.now.ordered.set.cores tasks.now.ordered.set.tasks.now tasks.now.ordered.order.now tasks.now.lengths.now k → ⊥) }
+    requires { MatchBool passes ((k < length tasks.now.ordered.set.tasks.now) × Passes limited_sum tasks.now.ordered.set.cores tasks.now.ordered.set.tasks.now tasks.now.ordered.order.now tasks.now.lengths.now k) ((k < length tasks.now.ordered.set.tasks.now) × Passes limited_sum tasks.now.ordered.set.cores tasks.now.ordered.set.tasks.now tasks.now.ordered.order.now tasks.now.lengths.now k → ⊥) }
     ensures decides { MatchBool result ((k < length tasks.now.ordered.set.tasks.now) × LimitedDeadlineAnalysis tasks.now.ordered.set.cores tasks.now.ordered.set.tasks.now tasks.now.ordered.order.now tasks.now.lengths.now k)
         ((k < length tasks.now.ordered.set.tasks.now) × LimitedDeadlineAnalysis tasks.now.ordered.set.cores tasks.now.ordered.set.tasks.now tasks.now.ordered.order.now tasks.now.lengths.now k → ⊥) }
-    ensures general { (m : ℕ) (ts : List Row) (q lens : List ℕ) (j : ℕ) → Equivalent (Passes limited-sum m ts q lens j) (LimitedDeadlineAnalysis m ts q lens j) }
+    ensures general { (m : ℕ) (ts : List Row) (q lens : List ℕ) (j : ℕ) → Equivalent (Passes limited_sum m ts q lens j) (LimitedDeadlineAnalysis m ts q lens j) }
 {
     passes
 }
@@ -50,16 +50,16 @@ fn as_limited_deadline_analysis(tasks: &Arranged, k: usize, passes: bool) -> boo
 pub fn response_time_analysis(tasks: &Arranged, bounds: &[u32]) -> bool
     ensures decides { MatchBool result ((length tasks.now.ordered.set.tasks.now ≤ length bounds.now) × ResponseTimeAnalysis tasks.now.ordered.set.cores tasks.now.ordered.set.tasks.now tasks.now.ordered.order.now tasks.now.lengths.now bounds.now)
         ((length tasks.now.ordered.set.tasks.now ≤ length bounds.now) × ResponseTimeAnalysis tasks.now.ordered.set.cores tasks.now.ordered.set.tasks.now tasks.now.ordered.order.now tasks.now.lengths.now bounds.now → ⊥) }
-    ensures general { (m : ℕ) (ts : List Row) (q lens bs : List ℕ) → Equivalent (Solution full-sum m ts q lens bs) (ResponseTimeAnalysis m ts q lens bs) }
+    ensures general { (m : ℕ) (ts : List Row) (q lens bs : List ℕ) → Equivalent (Solution full_sum m ts q lens bs) (ResponseTimeAnalysis m ts q lens bs) }
 {
     as_response_time_analysis(tasks, bounds, is_solution(&Full, tasks, bounds))
 }
 
 fn as_response_time_analysis(tasks: &Arranged, bounds: &[u32], solves: bool) -> bool
-    requires { MatchBool solves ((length tasks.now.ordered.set.tasks.now ≤ length bounds.now) × Solution full-sum tasks.now.ordered.set.cores tasks.now.ordered.set.tasks.now tasks.now.ordered.order.now tasks.now.lengths.now bounds.now) ((length tasks.now.ordered.set.tasks.now ≤ length bounds.now) × Solution full-sum tasks.now.ordered.set.cores tasks.now.ordered.set.tasks.now tasks.now.ordered.order.now tasks.now.lengths.now bounds.now → ⊥) }
+    requires { MatchBool solves ((length tasks.now.ordered.set.tasks.now ≤ length bounds.now) × Solution full_sum tasks.now.ordered.set.cores tasks.now.ordered.set.tasks.now tasks.now.ordered.order.now tasks.now.lengths.now bounds.now) ((length tasks.now.ordered.set.tasks.now ≤ length bounds.now) × Solution full_sum tasks.now.ordered.set.cores tasks.now.ordered.set.tasks.now tasks.now.ordered.order.now tasks.now.lengths.now bounds.now → ⊥) }
     ensures decides { MatchBool result ((length tasks.now.ordered.set.tasks.now ≤ length bounds.now) × ResponseTimeAnalysis tasks.now.ordered.set.cores tasks.now.ordered.set.tasks.now tasks.now.ordered.order.now tasks.now.lengths.now bounds.now)
         ((length tasks.now.ordered.set.tasks.now ≤ length bounds.now) × ResponseTimeAnalysis tasks.now.ordered.set.cores tasks.now.ordered.set.tasks.now tasks.now.ordered.order.now tasks.now.lengths.now bounds.now → ⊥) }
-    ensures general { (m : ℕ) (ts : List Row) (q lens bs : List ℕ) → Equivalent (Solution full-sum m ts q lens bs) (ResponseTimeAnalysis m ts q lens bs) }
+    ensures general { (m : ℕ) (ts : List Row) (q lens bs : List ℕ) → Equivalent (Solution full_sum m ts q lens bs) (ResponseTimeAnalysis m ts q lens bs) }
 {
     solves
 }
@@ -68,16 +68,16 @@ fn as_response_time_analysis(tasks: &Arranged, bounds: &[u32], solves: bool) -> 
 pub fn limited_response_time_analysis(tasks: &Arranged, bounds: &[u32]) -> bool
     ensures decides { MatchBool result ((length tasks.now.ordered.set.tasks.now ≤ length bounds.now) × LimitedResponseTimeAnalysis tasks.now.ordered.set.cores tasks.now.ordered.set.tasks.now tasks.now.ordered.order.now tasks.now.lengths.now bounds.now)
         ((length tasks.now.ordered.set.tasks.now ≤ length bounds.now) × LimitedResponseTimeAnalysis tasks.now.ordered.set.cores tasks.now.ordered.set.tasks.now tasks.now.ordered.order.now tasks.now.lengths.now bounds.now → ⊥) }
-    ensures general { (m : ℕ) (ts : List Row) (q lens bs : List ℕ) → Equivalent (Solution limited-sum m ts q lens bs) (LimitedResponseTimeAnalysis m ts q lens bs) }
+    ensures general { (m : ℕ) (ts : List Row) (q lens bs : List ℕ) → Equivalent (Solution limited_sum m ts q lens bs) (LimitedResponseTimeAnalysis m ts q lens bs) }
 {
     as_limited_response_time_analysis(tasks, bounds, is_solution(&Limited, tasks, bounds))
 }
 
 fn as_limited_response_time_analysis(tasks: &Arranged, bounds: &[u32], solves: bool) -> bool
-    requires { MatchBool solves ((length tasks.now.ordered.set.tasks.now ≤ length bounds.now) × Solution limited-sum tasks.now.ordered.set.cores tasks.now.ordered.set.tasks.now tasks.now.ordered.order.now tasks.now.lengths.now bounds.now) ((length tasks.now.ordered.set.tasks.now ≤ length bounds.now) × Solution limited-sum tasks.now.ordered.set.cores tasks.now.ordered.set.tasks.now tasks.now.ordered.order.now tasks.now.lengths.now bounds.now → ⊥) }
+    requires { MatchBool solves ((length tasks.now.ordered.set.tasks.now ≤ length bounds.now) × Solution limited_sum tasks.now.ordered.set.cores tasks.now.ordered.set.tasks.now tasks.now.ordered.order.now tasks.now.lengths.now bounds.now) ((length tasks.now.ordered.set.tasks.now ≤ length bounds.now) × Solution limited_sum tasks.now.ordered.set.cores tasks.now.ordered.set.tasks.now tasks.now.ordered.order.now tasks.now.lengths.now bounds.now → ⊥) }
     ensures decides { MatchBool result ((length tasks.now.ordered.set.tasks.now ≤ length bounds.now) × LimitedResponseTimeAnalysis tasks.now.ordered.set.cores tasks.now.ordered.set.tasks.now tasks.now.ordered.order.now tasks.now.lengths.now bounds.now)
         ((length tasks.now.ordered.set.tasks.now ≤ length bounds.now) × LimitedResponseTimeAnalysis tasks.now.ordered.set.cores tasks.now.ordered.set.tasks.now tasks.now.ordered.order.now tasks.now.lengths.now bounds.now → ⊥) }
-    ensures general { (m : ℕ) (ts : List Row) (q lens bs : List ℕ) → Equivalent (Solution limited-sum m ts q lens bs) (LimitedResponseTimeAnalysis m ts q lens bs) }
+    ensures general { (m : ℕ) (ts : List Row) (q lens bs : List ℕ) → Equivalent (Solution limited_sum m ts q lens bs) (LimitedResponseTimeAnalysis m ts q lens bs) }
 {
     solves
 }

@@ -1,5 +1,5 @@
 ghost use Rattle.std.specs.Prelude.{◌≡◌, ℕ, ◌+◌, ◌<◌, ◌≤◌, length, take, MatchBool, MatchOption};
-ghost use Rattle.analysis.specs.Rivals.{finish-limits, cost-of};
+ghost use Rattle.analysis.specs.Rivals.{finish_limits, cost_of};
 ghost use Rattle.analysis.specs.Passing.{PassesOver};
 ghost use Rattle.analysis.specs.Plans.{IsChoice, LeastLengths, NoLengths};
 ghost use Rattle.analysis.specs.Steps.{FirstTo, Greedy, Padded};
@@ -40,11 +40,11 @@ pub(crate) fn length_by<R: Rule, F: Finder<R>>(
     low: &[usize],
     k: usize,
 ) -> Option<u32>
-    requires late { late.now ≡ finish-limits set.now.tasks.now }
+    requires late { late.now ≡ finish_limits set.now.tasks.now }
     requires room { length set.now.tasks.now ≤ length lens.now }
-    requires choice { IsChoice (cost-of set.now.tasks.now) (length set.now.tasks.now) lens.now }
+    requires choice { IsChoice (cost_of set.now.tasks.now) (length set.now.tasks.now) lens.now }
     requires here { k < length set.now.tasks.now }
-    ensures { FirstTo (PassesOver (R.Rule.meaning rule.now) set.now.cores set.now.tasks.now low.now k lens.now) (cost-of set.now.tasks.now k) result }
+    ensures { FirstTo (PassesOver (R.Rule.meaning rule.now) set.now.cores set.now.tasks.now low.now k lens.now) (cost_of set.now.tasks.now k) result }
 {
     let mut upper = [NOBODY; 32];
     let mut lower = [NOBODY; 32];
@@ -78,7 +78,7 @@ fn lengths_by<R: Rule, F: Finder<R>>(finder: &F, rule: &R, tasks: &Ordered) -> O
 
 // The lengths before the first place is looked at.
 fn shortest<R: Rule>(rule: &R, tasks: &Ordered) -> [u32; 32]
-    ensures greedy { Greedy (cost-of tasks.now.set.tasks.now) (length tasks.now.set.tasks.now) (PassesOver (R.Rule.meaning rule.now) tasks.now.set.cores tasks.now.set.tasks.now) (take 0 tasks.now.order.now) result }
+    ensures greedy { Greedy (cost_of tasks.now.set.tasks.now) (length tasks.now.set.tasks.now) (PassesOver (R.Rule.meaning rule.now) tasks.now.set.cores tasks.now.set.tasks.now) (take 0 tasks.now.order.now) result }
     ensures padded { Padded (length tasks.now.set.tasks.now) 1 result }
     ensures wide { length result ≡ 32 }
 {
@@ -94,11 +94,11 @@ fn set_length<R: Rule, F: Finder<R>>(
     p: usize,
     lens: &mut [u32; 32],
 ) -> bool
-    requires late { late.now ≡ finish-limits tasks.now.set.tasks.now }
+    requires late { late.now ≡ finish_limits tasks.now.set.tasks.now }
     requires place { p < length tasks.now.order.now }
-    requires greedy { Greedy (cost-of tasks.now.set.tasks.now) (length tasks.now.set.tasks.now) (PassesOver (R.Rule.meaning rule.now) tasks.now.set.cores tasks.now.set.tasks.now) (take p tasks.now.order.now) lens.old }
+    requires greedy { Greedy (cost_of tasks.now.set.tasks.now) (length tasks.now.set.tasks.now) (PassesOver (R.Rule.meaning rule.now) tasks.now.set.cores tasks.now.set.tasks.now) (take p tasks.now.order.now) lens.old }
     requires padded { Padded (length tasks.now.set.tasks.now) 1 lens.old }
-    ensures { MatchBool result (Greedy (cost-of tasks.now.set.tasks.now) (length tasks.now.set.tasks.now) (PassesOver (R.Rule.meaning rule.now) tasks.now.set.cores tasks.now.set.tasks.now) (take (p + 1) tasks.now.order.now) lens.new
+    ensures { MatchBool result (Greedy (cost_of tasks.now.set.tasks.now) (length tasks.now.set.tasks.now) (PassesOver (R.Rule.meaning rule.now) tasks.now.set.cores tasks.now.set.tasks.now) (take (p + 1) tasks.now.order.now) lens.new
         × Padded (length tasks.now.set.tasks.now) 1 lens.new)
         (NoLengths (R.Rule.meaning rule.now) tasks.now.set.cores tasks.now.set.tasks.now tasks.now.order.now) }
 {

@@ -1,7 +1,7 @@
 ghost use Rattle.std.specs.Prelude.{◌≡◌, ℕ, ◌+◌, ◌-◌, ◌/◌, ◌≤◌, MatchBool};
 ghost use Rattle.interference.specs.Questions.{posed};
-ghost use Rattle.analysis.specs.Passing.{Meets, own-demand};
-ghost use Rattle.analysis.specs.Bounds.{next-bound};
+ghost use Rattle.analysis.specs.Passing.{Meets, own_demand};
+ghost use Rattle.analysis.specs.Bounds.{next_bound};
 
 use crate::place::Place;
 use crate::rivals::limit;
@@ -11,8 +11,8 @@ use interference::rule::Rule;
 // The one place that puts a question: an equal part of the rule's sum for each core, for a region of length f.
 fn part<R: Rule>(rule: &R, place: &Place, window: u32, f: u32) -> u32
     requires region { (1 ≤ f) × (f ≤ place.now.task.cost) }
-    requires window { (own-demand place.now.task f ≤ window) × (window ≤ 65535) }
-    ensures part { result ≡ R.Rule.meaning rule.now (posed place.now.cores window (own-demand place.now.task f) f place.now.upper.now place.now.lower.now) / place.now.cores }
+    requires window { (own_demand place.now.task f ≤ window) × (window ≤ 65535) }
+    ensures part { result ≡ R.Rule.meaning rule.now (posed place.now.cores window (own_demand place.now.task f) f place.now.upper.now place.now.lower.now) / place.now.cores }
     ensures fits { result ≤ 1000000000 }
 {
     let demand = place.task.cost - (f - 1);
@@ -42,7 +42,7 @@ pub fn passes<R: Rule>(rule: &R, place: &Place, f: u32) -> bool
 pub fn next<R: Rule>(rule: &R, place: &Place, f: u32, b: u32) -> u32
     requires region { (1 ≤ f) × (f ≤ place.now.task.cost) }
     requires bound { (place.now.task.cost ≤ b) × (b ≤ 65535) }
-    ensures { result ≡ next-bound (R.Rule.meaning rule.now) place.now.cores place.now.task.cost f place.now.upper.now place.now.lower.now b }
+    ensures { result ≡ next_bound (R.Rule.meaning rule.now) place.now.cores place.now.task.cost f place.now.upper.now place.now.lower.now b }
 {
     let early = f - 1;
     early + (place.task.cost - early + part(rule, place, b - early, f))

@@ -1,5 +1,5 @@
 ghost use Rattle.std.specs.Prelude.{◌≡◌, ℕ, ◌<◌, ◌≤◌, false, length, take, MatchOption};
-ghost use Rattle.analysis.specs.Rivals.{finish-limits, cost-of, among};
+ghost use Rattle.analysis.specs.Rivals.{finish_limits, cost_of, among};
 ghost use Rattle.analysis.specs.Passing.{PassesOver};
 ghost use Rattle.analysis.specs.Plans.{IsChoice, FirstPlan, NoPlan};
 ghost use Rattle.analysis.specs.Steps.{FirstIs, Stuck, Padded};
@@ -47,14 +47,14 @@ fn candidate<R: Rule, F: Finder<R>>(
     low: &[usize],
     from: usize,
 ) -> Option<(usize, u32)>
-    requires late { late.now ≡ finish-limits set.now.tasks.now }
+    requires late { late.now ≡ finish_limits set.now.tasks.now }
     requires room { length set.now.tasks.now ≤ length lens.now }
-    requires choice { IsChoice (cost-of set.now.tasks.now) (length set.now.tasks.now) lens.now }
+    requires choice { IsChoice (cost_of set.now.tasks.now) (length set.now.tasks.now) lens.now }
     ensures { MatchOption result
-        ((y : ℕ) → from ≤ y → y < length set.now.tasks.now → Stuck (cost-of set.now.tasks.now) (PassesOver (R.Rule.meaning rule.now) set.now.cores set.now.tasks.now) low.now lens.now y)
+        ((y : ℕ) → from ≤ y → y < length set.now.tasks.now → Stuck (cost_of set.now.tasks.now) (PassesOver (R.Rule.meaning rule.now) set.now.cores set.now.tasks.now) low.now lens.now y)
         (λ p. (from ≤ p.0) × (p.0 < length set.now.tasks.now) × (among low.now p.0 ≡ false)
-        × FirstIs (PassesOver (R.Rule.meaning rule.now) set.now.cores set.now.tasks.now low.now p.0 lens.now) (cost-of set.now.tasks.now p.0) p.1
-        × ((y : ℕ) → from ≤ y → y < p.0 → Stuck (cost-of set.now.tasks.now) (PassesOver (R.Rule.meaning rule.now) set.now.cores set.now.tasks.now) low.now lens.now y)) }
+        × FirstIs (PassesOver (R.Rule.meaning rule.now) set.now.cores set.now.tasks.now low.now p.0 lens.now) (cost_of set.now.tasks.now p.0) p.1
+        × ((y : ℕ) → from ≤ y → y < p.0 → Stuck (cost_of set.now.tasks.now) (PassesOver (R.Rule.meaning rule.now) set.now.cores set.now.tasks.now) low.now lens.now y)) }
 {
     let mut x = from;
     'tasks: loop {

@@ -1,5 +1,5 @@
 ghost use Rattle.std.specs.Prelude.{◌≡◌, ℕ, ◌+◌, ◌<◌, ◌≤◌, length, take, slice_index};
-ghost use Rattle.analysis.specs.Rivals.{finish-limit, finish-limits, among, above, below, picked, rival-of, upper-rival, lower-rival, uppers, lowers};
+ghost use Rattle.analysis.specs.Rivals.{finish_limit, finish_limits, among, above, below, picked, rival_of, upper_rival, lower_rival, uppers, lowers};
 
 use crate::task::Task;
 use interference::rival::Rival;
@@ -12,7 +12,7 @@ pub const NOBODY: Rival = Rival {
 
 // The one place where a task becomes a rival.
 fn as_rival(t: &Task, cost: u32, finish: u32) -> Rival
-    ensures { result ≡ rival-of t.now cost finish }
+    ensures { result ≡ rival_of t.now cost finish }
 {
     Rival {
         cost,
@@ -22,7 +22,7 @@ fn as_rival(t: &Task, cost: u32, finish: u32) -> Rival
 }
 
 pub fn limit(t: &Task) -> u32
-    ensures { result ≡ finish-limit t.now }
+    ensures { result ≡ finish_limit t.now }
 {
     t.deadline
 }
@@ -55,7 +55,7 @@ fn is_below(low: &[usize], k: usize, j: usize) -> bool
 // Task j as a rival in a higher place.
 fn upper_rival(tasks: &[Task], late: &[u32], j: usize) -> Rival
     requires here { (j < length tasks.now) × (j < length late.now) }
-    ensures { result ≡ upper-rival tasks.now late.now j }
+    ensures { result ≡ upper_rival tasks.now late.now j }
 {
     as_rival(&tasks[j], tasks[j].cost, late[j])
 }
@@ -64,7 +64,7 @@ fn upper_rival(tasks: &[Task], late: &[u32], j: usize) -> Rival
 fn lower_rival(tasks: &[Task], late: &[u32], lens: &[u32], j: usize) -> Rival
     requires here { (j < length tasks.now) × ((j < length late.now) × (j < length lens.now)) }
     requires some { 1 ≤ slice_index lens.now j }
-    ensures { result ≡ lower-rival tasks.now late.now lens.now j }
+    ensures { result ≡ lower_rival tasks.now late.now lens.now j }
 {
     as_rival(&tasks[j], lens[j] - 1, late[j])
 }
@@ -80,9 +80,9 @@ fn add_upper(
     out: &mut [Rival; 32],
 ) -> usize
     requires here { (j < length tasks.now) × ((j < length late.now) × (used < 32)) }
-    requires before { take used out.old ≡ picked (above low.now k) (upper-rival tasks.now late.now) j }
+    requires before { take used out.old ≡ picked (above low.now k) (upper_rival tasks.now late.now) j }
     ensures few { result ≤ used + 1 }
-    ensures after { take result out.new ≡ picked (above low.now k) (upper-rival tasks.now late.now) (j + 1) }
+    ensures after { take result out.new ≡ picked (above low.now k) (upper_rival tasks.now late.now) (j + 1) }
 {
     if !is_above(low, k, j) {
         return used;
@@ -104,9 +104,9 @@ fn add_lower(
 ) -> usize
     requires here { (j < length tasks.now) × ((j < length late.now) × ((j < length lens.now) × (used < 32))) }
     requires some { 1 ≤ slice_index lens.now j }
-    requires before { take used out.old ≡ picked (below low.now k) (lower-rival tasks.now late.now lens.now) j }
+    requires before { take used out.old ≡ picked (below low.now k) (lower_rival tasks.now late.now lens.now) j }
     ensures few { result ≤ used + 1 }
-    ensures after { take result out.new ≡ picked (below low.now k) (lower-rival tasks.now late.now lens.now) (j + 1) }
+    ensures after { take result out.new ≡ picked (below low.now k) (lower_rival tasks.now late.now lens.now) (j + 1) }
 {
     if !is_below(low, k, j) {
         return used;
@@ -161,7 +161,7 @@ pub fn fill_lower(
 // The latest finishes of the deadline test.
 pub fn fill_limits(tasks: &[Task], out: &mut [u32; 32])
     requires few { length tasks.now ≤ 32 }
-    ensures { take (length tasks.now) out.new ≡ finish-limits tasks.now }
+    ensures { take (length tasks.now) out.new ≡ finish_limits tasks.now }
 {
     for (i, t) in tasks.iter().enumerate() {
         out[i] = limit(t);

@@ -1,5 +1,5 @@
 ghost use Rattle.std.specs.Prelude.{◌≡◌, ℕ, ◌<◌, ◌≤◌, length, slice_index_or};
-ghost use Rattle.analysis.specs.Rivals.{no-task, cost-of, limit-of, uppers, lowers};
+ghost use Rattle.analysis.specs.Rivals.{no_task, cost_of, limit_of, uppers, lowers};
 ghost use Rattle.analysis.specs.Plans.{IsChoice};
 ghost use Rattle.analysis.specs.Bounds.{BoundsWithin};
 
@@ -20,12 +20,12 @@ pub fn stand<'a>(
     lower: &'a mut [Rival; 32],
 ) -> Place<'a>
     requires late { length set.now.tasks.now ≤ length late.now }
-    requires finishes { BoundsWithin (length set.now.tasks.now) (cost-of set.now.tasks.now) (limit-of set.now.tasks.now) late.now }
+    requires finishes { BoundsWithin (length set.now.tasks.now) (cost_of set.now.tasks.now) (limit_of set.now.tasks.now) late.now }
     requires room { length set.now.tasks.now ≤ length lens.now }
-    requires choice { IsChoice (cost-of set.now.tasks.now) (length set.now.tasks.now) lens.now }
+    requires choice { IsChoice (cost_of set.now.tasks.now) (length set.now.tasks.now) lens.now }
     requires here { k < length set.now.tasks.now }
     ensures cores { result.cores ≡ set.now.cores }
-    ensures task { result.task ≡ slice_index_or set.now.tasks.now k no-task }
+    ensures task { result.task ≡ slice_index_or set.now.tasks.now k no_task }
     ensures upper { result.upper.now ≡ uppers set.now.tasks.now late.now low.now k }
     ensures lower { result.lower.now ≡ lowers set.now.tasks.now late.now lens.now low.now k }
 {

@@ -1,5 +1,5 @@
 ghost use Rattle.std.specs.Prelude.{◌≡◌, ℕ, ◌≤◌, length};
-ghost use Rattle.analysis.specs.Rivals.{TasksWithinLimits, cost-of};
+ghost use Rattle.analysis.specs.Rivals.{TasksWithinLimits, cost_of};
 ghost use Rattle.analysis.specs.Plans.{Named, IsChoice};
 
 use crate::task::Task;
@@ -30,7 +30,7 @@ pub struct Arranged<'a> {
     pub ordered: Ordered<'a>,
     pub lengths: &'a [u32],
     ghost room: { length ordered.set.tasks.now ≤ length lengths.now },
-    ghost choice: { IsChoice (cost-of ordered.set.tasks.now) (length ordered.set.tasks.now) lengths.now },
+    ghost choice: { IsChoice (cost_of ordered.set.tasks.now) (length ordered.set.tasks.now) lengths.now },
 }
 
 // At most eight tasks: few enough to search all orders of them.

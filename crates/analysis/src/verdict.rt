@@ -1,6 +1,6 @@
 ghost use Rattle.std.specs.Prelude.{◌≡◌, ℕ, ◌<◌, ◌≤◌, length, MatchBool, MatchOption, ◌≢◌, slice_index};
 ghost use Rattle.analysis.specs.Passing.{Passes};
-ghost use Rattle.analysis.specs.Rivals.{cost-of, limit-of};
+ghost use Rattle.analysis.specs.Rivals.{cost_of, limit_of};
 ghost use Rattle.analysis.specs.Bounds.{bound_of, BoundsWithin, Solution};
 
 use crate::passing::{next, passes};
@@ -75,8 +75,8 @@ pub fn is_solution<R: Rule>(rule: &R, tasks: &Arranged, bounds: &[u32]) -> bool
 
 // Whether each bound is at least the cost and at most the limit.
 fn are_within(tasks: &Arranged, bounds: &[u32]) -> bool
-    ensures { MatchBool result ((length tasks.now.ordered.set.tasks.now ≤ length bounds.now) × BoundsWithin (length tasks.now.ordered.set.tasks.now) (cost-of tasks.now.ordered.set.tasks.now) (limit-of tasks.now.ordered.set.tasks.now) bounds.now)
-        ((length tasks.now.ordered.set.tasks.now ≤ length bounds.now) × BoundsWithin (length tasks.now.ordered.set.tasks.now) (cost-of tasks.now.ordered.set.tasks.now) (limit-of tasks.now.ordered.set.tasks.now) bounds.now → ⊥) }
+    ensures { MatchBool result ((length tasks.now.ordered.set.tasks.now ≤ length bounds.now) × BoundsWithin (length tasks.now.ordered.set.tasks.now) (cost_of tasks.now.ordered.set.tasks.now) (limit_of tasks.now.ordered.set.tasks.now) bounds.now)
+        ((length tasks.now.ordered.set.tasks.now ≤ length bounds.now) × BoundsWithin (length tasks.now.ordered.set.tasks.now) (cost_of tasks.now.ordered.set.tasks.now) (limit_of tasks.now.ordered.set.tasks.now) bounds.now → ⊥) }
 {
     let rows = tasks.ordered.set.tasks;
     if rows.len() > bounds.len() {
@@ -94,7 +94,7 @@ fn are_within(tasks: &Arranged, bounds: &[u32]) -> bool
 fn keeps<R: Rule>(rule: &R, tasks: &Arranged, bounds: &[u32], p: usize) -> bool
     requires place { p < length tasks.now.ordered.order.now }
     requires room { length tasks.now.ordered.set.tasks.now ≤ length bounds.now }
-    requires within { BoundsWithin (length tasks.now.ordered.set.tasks.now) (cost-of tasks.now.ordered.set.tasks.now) (limit-of tasks.now.ordered.set.tasks.now) bounds.now }
+    requires within { BoundsWithin (length tasks.now.ordered.set.tasks.now) (cost_of tasks.now.ordered.set.tasks.now) (limit_of tasks.now.ordered.set.tasks.now) bounds.now }
     ensures { MatchBool result (bound_of (R.Rule.meaning rule.now) tasks.now.ordered.set.cores tasks.now.ordered.set.tasks.now tasks.now.ordered.order.now tasks.now.lengths.now (slice_index tasks.now.ordered.order.now p) bounds.now (slice_index bounds.now (slice_index tasks.now.ordered.order.now p)) ≡ slice_index bounds.now (slice_index tasks.now.ordered.order.now p))
         (bound_of (R.Rule.meaning rule.now) tasks.now.ordered.set.cores tasks.now.ordered.set.tasks.now tasks.now.ordered.order.now tasks.now.lengths.now (slice_index tasks.now.ordered.order.now p) bounds.now (slice_index bounds.now (slice_index tasks.now.ordered.order.now p)) ≢ slice_index bounds.now (slice_index tasks.now.ordered.order.now p)) }
 {

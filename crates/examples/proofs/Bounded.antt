@@ -3,15 +3,15 @@ use Rattle.std.proofs.Common.{◌≡◌, ℕ, zero, suc, ◌+◌, ◌<◌, ◌�
 use Rattle.std.proofs.lemmas.Bool.{and_parts, cases_eq, cases_Bool, cond-true, cond-false}
 
 -- every number below n passes
-abbrev pub all-below : ℕ → (ℕ → Bool) → Bool
-all-below zero test = true
-all-below (suc n) test = test n && all-below n test
+abbrev pub all_below : ℕ → (ℕ → Bool) → Bool
+all_below zero test = true
+all_below (suc n) test = test n && all_below n test
 
-pub all-below-at : (n : ℕ) (test : ℕ → Bool) → all-below n test ≡ true → (k : ℕ) → k < n → test k ≡ true
-all-below-at zero test h k l = absurd (omega arith)
-all-below-at (suc n) test h k l =
-    let p = and_parts (test n) (all-below n test) h in
-    ⊎_elim (λ e. subst (λ j. test j ≡ true) (sym e) p.0) (λ d. all-below-at n test p.1 k (omega arith)) (cases_eq k n)
+pub all_below_at : (n : ℕ) (test : ℕ → Bool) → all_below n test ≡ true → (k : ℕ) → k < n → test k ≡ true
+all_below_at zero test h k l = absurd (omega arith)
+all_below_at (suc n) test h k l =
+    let p = and_parts (test n) (all_below n test) h in
+    ⊎_elim (λ e. subst (λ j. test j ≡ true) (sym e) p.0) (λ d. all_below_at n test p.1 k (omega arith)) (cases_eq k n)
 
 -- the first of n numbers from i on that passes, or 0
 abbrev pub first : (ℕ → Bool) → ℕ → ℕ → ℕ
@@ -27,13 +27,13 @@ pub on_both : {X : Type 0} (r : ℕ) (fail : X) (found : ℕ → X) (P : X → T
 on_both zero fail found P a b = a refl
 on_both (suc f) fail found P a b = b (suc f) refl (omega arith)
 
-pub first-none : (test : ℕ → Bool) (n i : ℕ) → 1 ≤ i → first test n i ≡ 0 → (f : ℕ) → i ≤ f → f < i + n → test f ≡ false
-first-none test zero i pos e f l h = absurd (omega arith)
-first-none test (suc n) i pos e f l h =
+pub first_none : (test : ℕ → Bool) (n i : ℕ) → 1 ≤ i → first test n i ≡ 0 → (f : ℕ) → i ≤ f → f < i + n → test f ≡ false
+first_none test zero i pos e f l h = absurd (omega arith)
+first_none test (suc n) i pos e f l h =
     ⊎_elim
     (λ t. let z = cond-true (test i) i (first test n (i + 1)) t in absurd (omega arith))
     (λ n'. let z = cond-false (test i) i (first test n (i + 1)) n' in
-    ⊎_elim (λ s. subst (λ j. test j ≡ false) (sym s) n') (λ d. first-none test n (i + 1) (omega arith) (omega arith) f (omega arith) (omega arith)) (cases_eq f i))
+    ⊎_elim (λ s. subst (λ j. test j ≡ false) (sym s) n') (λ d. first_none test n (i + 1) (omega arith) (omega arith) f (omega arith) (omega arith)) (cases_eq f i))
     (cases_Bool (test i))
 
 pub first_some : (test : ℕ → Bool) (n i f : ℕ) → 1 ≤ f → first test n i ≡ f → (i ≤ f) × (f < i + n) × (test f ≡ true) × ((e : ℕ) → i ≤ e → e < f → test e ≡ false)

@@ -8,11 +8,11 @@ same [] (y ∷ ys) = false
 same (x ∷ xs) [] = false
 same (x ∷ xs) (y ∷ ys) = eqb x y && same xs ys
 
-same-is : (xs ys : List ℕ) → same xs ys ≡ true → xs ≡ ys
-same-is [] [] h = refl
-same-is [] (y ∷ ys) h = absurd (false≢true h)
-same-is (x ∷ xs) [] h = absurd (false≢true h)
-same-is (x ∷ xs) (y ∷ ys) h = let p = and_parts (eqb x y) (same xs ys) h in (λ i. eqb-true x y p.0 i ∷ same-is xs ys p.1 i)
+same_is : (xs ys : List ℕ) → same xs ys ≡ true → xs ≡ ys
+same_is [] [] h = refl
+same_is [] (y ∷ ys) h = absurd (false≢true h)
+same_is (x ∷ xs) [] h = absurd (false≢true h)
+same_is (x ∷ xs) (y ∷ ys) h = let p = and_parts (eqb x y) (same xs ys) h in (λ i. eqb-true x y p.0 i ∷ same_is xs ys p.1 i)
 
 -- nothing, or this list
 abbrev pub nothing : Option (List ℕ) → Bool
@@ -27,5 +27,5 @@ module _ (r : Option (List ℕ)) (P : Type 0) (Q : List ℕ → Type 0) where
   pub nothing_is : MatchOption r P Q → nothing r ≡ true → P
   nothing_is = elim r as (λ r. MatchOption r P Q → nothing r ≡ true → P) [ None ↦ λ c h. c | Some xs ↦ λ c h. absurd (false≢true h) ]
 
-  pub gave-is : MatchOption r P Q → (ys : List ℕ) → gave r ys ≡ true → Q ys
-  gave-is = elim r as (λ r. MatchOption r P Q → (ys : List ℕ) → gave r ys ≡ true → Q ys) [ None ↦ λ c ys h. absurd (false≢true h) | Some xs ↦ λ c ys h. subst Q (same-is xs ys h) c ]
+  pub gave_is : MatchOption r P Q → (ys : List ℕ) → gave r ys ≡ true → Q ys
+  gave_is = elim r as (λ r. MatchOption r P Q → (ys : List ℕ) → gave r ys ≡ true → Q ys) [ None ↦ λ c ys h. absurd (false≢true h) | Some xs ↦ λ c ys h. subst Q (same_is xs ys h) c ]

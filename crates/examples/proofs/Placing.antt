@@ -6,8 +6,8 @@ use Rattle.std.proofs.lemmas.Bool.{and_parts, or_cases, both_ways, ltb-true, fal
 use Rattle.analysis.specs.Rivals.{among}
 use Rattle.analysis.specs.Plans.{Before, IsOrder, IsChoice, Test}
 use Rattle.analysis.specs.Steps.{InfeasibleByPlace, Greedy}
-use Rattle.analysis.proofs.Greedy.{greedy-more, greedy-none, infeasible-more}
-use Rattle.examples.proofs.Bounded.{all-below, all-below-at, first, first-none, first_some, on, on_both}
+use Rattle.analysis.proofs.Greedy.{greedy_more, greedy_none, infeasible_more}
+use Rattle.examples.proofs.Bounded.{all_below, all_below_at, first, first_none, first_some, on, on_both}
 
 module _ (size : ℕ → ℕ) (n : ℕ) (test : List ℕ → ℕ → List ℕ → ℕ → Bool) where
   -- the first length of task x above those of `pre` with their lengths, or 0
@@ -26,13 +26,13 @@ module _ (size : ℕ → ℕ) (n : ℕ) (test : List ℕ → ℕ → List ℕ �
   -- no order that begins with `pre` passes, as d places more tell
   abbrev pub stuck : ℕ → List ℕ → List ℕ → Bool
   stuck zero pre lens = false
-  stuck (suc d) pre lens = ltb (length pre) n && all-below n (cut (stuck d) pre lens)
+  stuck (suc d) pre lens = ltb (length pre) n && all_below n (cut (stuck d) pre lens)
 
   -- no order that begins with `pre` and is before this one passes
   abbrev pub clear : List ℕ → List ℕ → List ℕ → Bool
   clear pre lens [] = true
   clear pre lens (x ∷ xs) =
-      all-below x (cut (stuck n) pre lens) && on (fit pre lens x) false (λ f. clear (pre ++ x ∷ []) (set lens x f) xs)
+      all_below x (cut (stuck n) pre lens) && on (fit pre lens x) false (λ f. clear (pre ++ x ∷ []) (set lens x f) xs)
 
 -- what passes with longer regions below passes with shorter ones
 abbrev pub Falls : (ℕ → ℕ) → ℕ → Test → Type 0
@@ -52,25 +52,25 @@ module _ (size : ℕ → ℕ) (n : ℕ) (ok : Test) (test : List ℕ → ℕ →
   no : (low : List ℕ) (k : ℕ) (lens : List ℕ) (f : ℕ) → test low k lens f ≡ false → ok low k lens f → ⊥
   no low k lens f e h = both_ways (test low k lens f) e ((decides low k lens f).1 h)
 
-  next-named : (pre : List ℕ) (x : ℕ) (xs : List ℕ) → IsOrder n (pre ++ x ∷ xs) → (x < n) × (among pre x ≡ false)
-  next-named pre x xs o =
+  next_named : (pre : List ℕ) (x : ℕ) (xs : List ℕ) → IsOrder n (pre ++ x ∷ xs) → (x < n) × (among pre x ≡ false)
+  next_named pre x xs o =
       subst₂ (λ low k. (k < n) × (among low k ≡ false)) (take_at pre (x ∷ xs) (length pre) refl) (get_or_at pre x xs 0 (length pre) refl)
       (o.1 (length pre) (omega (arith, length-append pre (x ∷ xs))))
 
-  no-fit : (pre lens : List ℕ) → Least pre lens → (x : ℕ) (xs : List ℕ) → IsOrder n (pre ++ x ∷ xs) → fit size n test pre lens x ≡ 0 → Bad (pre ++ x ∷ xs)
-  no-fit pre lens g x xs o e =
-      let bad = greedy-none size n ok falls pre lens g.0 x (next-named pre x xs o).0
-      (λ f a b. no pre x lens f (first-none (test pre x lens) (size x) 1 (omega arith) e f a (omega arith))) in
+  no_fit : (pre lens : List ℕ) → Least pre lens → (x : ℕ) (xs : List ℕ) → IsOrder n (pre ++ x ∷ xs) → fit size n test pre lens x ≡ 0 → Bad (pre ++ x ∷ xs)
+  no_fit pre lens g x xs o e =
+      let bad = greedy_none size n ok falls pre lens g.0 x (next_named pre x xs o).0
+      (λ f a b. no pre x lens f (first_none (test pre x lens) (size x) 1 (omega arith) e f a (omega arith))) in
       subst Bad (append_assoc pre (x ∷ []) xs)
-      (infeasible-more size n ok ((pre ++ x ∷ []) ++ xs) (length (pre ++ x ∷ [])) (omega (arith, length-append (pre ++ x ∷ []) xs))
+      (infeasible_more size n ok ((pre ++ x ∷ []) ++ xs) (length (pre ++ x ∷ [])) (omega (arith, length-append (pre ++ x ∷ []) xs))
       (subst Bad (sym (take_at (pre ++ x ∷ []) xs (length (pre ++ x ∷ [])) refl)) bad))
 
-  fit-more : (pre lens : List ℕ) → Least pre lens → (x : ℕ) (xs : List ℕ) → IsOrder n (pre ++ x ∷ xs) → (f : ℕ) → fit size n test pre lens x ≡ f → 1 ≤ f
+  fit_more : (pre lens : List ℕ) → Least pre lens → (x : ℕ) (xs : List ℕ) → IsOrder n (pre ++ x ∷ xs) → (f : ℕ) → fit size n test pre lens x ≡ f → 1 ≤ f
       → Least (pre ++ x ∷ []) (set lens x f)
-  fit-more pre lens g x xs o f e pos =
+  fit_more pre lens g x xs o f e pos =
       let s = first_some (test pre x lens) (size x) 1 f pos e in
-      let k = next-named pre x xs o in (
-        greedy-more size n ok falls pre lens g.0 x k.0 k.1 (omega (arith, g.1, k.0)) f pos (omega (arith, s.1)) ((decides pre x lens f).0 s.2)
+      let k = next_named pre x xs o in (
+        greedy_more size n ok falls pre lens g.0 x k.0 k.1 (omega (arith, g.1, k.0)) f pos (omega (arith, s.1)) ((decides pre x lens f).0 s.2)
             (λ h a b. no pre x lens h (s.3 h a b)),
         length-set lens x f ∙ g.1,
       )
@@ -78,51 +78,51 @@ module _ (size : ℕ → ℕ) (n : ℕ) (ok : Test) (test : List ℕ → ℕ →
   regroup : (pre : List ℕ) (x : ℕ) (xs : List ℕ) → IsOrder n (pre ++ x ∷ xs) → IsOrder n ((pre ++ x ∷ []) ++ xs)
   regroup pre x xs o = subst (IsOrder n) (sym (append_assoc pre (x ∷ []) xs)) o
 
-  pub placed-is : (pre lens : List ℕ) → Least pre lens → (xs : List ℕ) → IsOrder n (pre ++ xs)
+  pub placed_is : (pre lens : List ℕ) → Least pre lens → (xs : List ℕ) → IsOrder n (pre ++ xs)
       → MatchOption (placed size n test pre lens xs) (Bad (pre ++ xs)) (λ l. Greedy size n ok (pre ++ xs) l)
-  placed-is pre lens g [] o = subst (λ q. Greedy size n ok q lens) (sym (append-nil pre)) g.0
-  placed-is pre lens g (x ∷ xs) o =
+  placed_is pre lens g [] o = subst (λ q. Greedy size n ok q lens) (sym (append-nil pre)) g.0
+  placed_is pre lens g (x ∷ xs) o =
       on_both (fit size n test pre lens x) None (λ f. placed size n test (pre ++ x ∷ []) (set lens x f) xs)
       (λ r. MatchOption r (Bad (pre ++ x ∷ xs)) (λ l. Greedy size n ok (pre ++ x ∷ xs) l))
-      (no-fit pre lens g x xs o)
+      (no_fit pre lens g x xs o)
       (λ f e pos.
       subst (λ q. MatchOption (placed size n test (pre ++ x ∷ []) (set lens x f) xs) (Bad q) (λ l. Greedy size n ok q l)) (append_assoc pre (x ∷ []) xs)
-      (placed-is (pre ++ x ∷ []) (set lens x f) (fit-more pre lens g x xs o f e pos) xs (regroup pre x xs o)))
+      (placed_is (pre ++ x ∷ []) (set lens x f) (fit_more pre lens g x xs o f e pos) xs (regroup pre x xs o)))
 
   -- all that begins like this is bad
   abbrev Tells : (List ℕ → List ℕ → Bool) → Type 0
   Tells rest = (pre lens : List ℕ) → Least pre lens → rest pre lens ≡ true → (ys : List ℕ) → IsOrder n (pre ++ ys) → Bad (pre ++ ys)
 
-  cut-is : (rest : List ℕ → List ℕ → Bool) → Tells rest → (pre lens : List ℕ) → Least pre lens → (y : ℕ) (ys : List ℕ) → IsOrder n (pre ++ y ∷ ys)
+  cut_is : (rest : List ℕ → List ℕ → Bool) → Tells rest → (pre lens : List ℕ) → Least pre lens → (y : ℕ) (ys : List ℕ) → IsOrder n (pre ++ y ∷ ys)
       → cut size n test rest pre lens y ≡ true → Bad (pre ++ y ∷ ys)
-  cut-is rest tells pre lens g y ys o h =
+  cut_is rest tells pre lens g y ys o h =
       let found : ℕ → Bool = λ f. rest (pre ++ y ∷ []) (set lens y f) in
       ⊎_elim
-      (λ t. absurd (both_ways (among pre y) (next-named pre y ys o).1 t))
+      (λ t. absurd (both_ways (among pre y) (next_named pre y ys o).1 t))
       (on_both (fit size n test pre lens y) true found (λ b. b ≡ true → Bad (pre ++ y ∷ ys))
-      (λ e t. no-fit pre lens g y ys o e)
-      (λ f e pos t. subst Bad (append_assoc pre (y ∷ []) ys) (tells (pre ++ y ∷ []) (set lens y f) (fit-more pre lens g y ys o f e pos) t ys (regroup pre y ys o))))
+      (λ e t. no_fit pre lens g y ys o e)
+      (λ f e pos t. subst Bad (append_assoc pre (y ∷ []) ys) (tells (pre ++ y ∷ []) (set lens y f) (fit_more pre lens g y ys o f e pos) t ys (regroup pre y ys o))))
       (or_cases (among pre y) (on (fit size n test pre lens y) true found) h)
 
-  stuck-is : (d : ℕ) → Tells (stuck size n test d)
-  stuck-is zero pre lens g h ys o = absurd (false≢true h)
-  stuck-is (suc d) pre lens g h [] o =
-      let p = and_parts (ltb (length pre) n) (all-below n (cut size n test (stuck size n test d) pre lens)) h in
+  stuck_is : (d : ℕ) → Tells (stuck size n test d)
+  stuck_is zero pre lens g h ys o = absurd (false≢true h)
+  stuck_is (suc d) pre lens g h [] o =
+      let p = and_parts (ltb (length pre) n) (all_below n (cut size n test (stuck size n test d) pre lens)) h in
       absurd (omega (arith, ltb-true (length pre) n p.0, ap length (append-nil pre), o.0))
-  stuck-is (suc d) pre lens g h (y ∷ ys) o =
-      let p = and_parts (ltb (length pre) n) (all-below n (cut size n test (stuck size n test d) pre lens)) h in
-      cut-is (stuck size n test d) (stuck-is d) pre lens g y ys o (all-below-at n (cut size n test (stuck size n test d) pre lens) p.1 y (next-named pre y ys o).0)
+  stuck_is (suc d) pre lens g h (y ∷ ys) o =
+      let p = and_parts (ltb (length pre) n) (all_below n (cut size n test (stuck size n test d) pre lens)) h in
+      cut_is (stuck size n test d) (stuck_is d) pre lens g y ys o (all_below_at n (cut size n test (stuck size n test d) pre lens) p.1 y (next_named pre y ys o).0)
 
-  pub clear-is : (pre lens : List ℕ) → Least pre lens → (xs : List ℕ) → clear size n test pre lens xs ≡ true
+  pub clear_is : (pre lens : List ℕ) → Least pre lens → (xs : List ℕ) → clear size n test pre lens xs ≡ true
       → (ys : List ℕ) → IsOrder n (pre ++ ys) → Before ys xs → Bad (pre ++ ys)
-  clear-is pre lens g xs h [] o b = absurd b
-  clear-is pre lens g [] h (y ∷ ys) o b = absurd b
-  clear-is pre lens g (x ∷ xs) h (y ∷ ys) o b =
+  clear_is pre lens g xs h [] o b = absurd b
+  clear_is pre lens g [] h (y ∷ ys) o b = absurd b
+  clear_is pre lens g (x ∷ xs) h (y ∷ ys) o b =
       let found : ℕ → Bool = λ f. clear size n test (pre ++ x ∷ []) (set lens x f) xs in
       let cuts = cut size n test (stuck size n test n) pre lens in
-      let p = and_parts (all-below x cuts) (on (fit size n test pre lens x) false found) h in
+      let p = and_parts (all_below x cuts) (on (fit size n test pre lens x) false found) h in
       ⊎_elim
-      (λ lt. cut-is (stuck size n test n) (stuck-is n) pre lens g y ys o (all-below-at x cuts p.0 y lt))
+      (λ lt. cut_is (stuck size n test n) (stuck_is n) pre lens g y ys o (all_below_at x cuts p.0 y lt))
       (λ e.
       let o' : IsOrder n (pre ++ x ∷ ys) = subst (λ k. IsOrder n (pre ++ k ∷ ys)) e.0 o in
       subst (λ k. Bad (pre ++ k ∷ ys)) (sym e.0)
@@ -130,6 +130,6 @@ module _ (size : ℕ → ℕ) (n : ℕ) (ok : Test) (test : List ℕ → ℕ →
       (λ i t. absurd (false≢true t))
       (λ f i pos t.
       subst Bad (append_assoc pre (x ∷ []) ys)
-      (clear-is (pre ++ x ∷ []) (set lens x f) (fit-more pre lens g x ys o' f i pos) xs t ys (regroup pre x ys o') e.1))
+      (clear_is (pre ++ x ∷ []) (set lens x f) (fit_more pre lens g x ys o' f i pos) xs t ys (regroup pre x ys o') e.1))
       p.1))
       b

@@ -25,13 +25,13 @@ pub record Under (n : ℕ) (low high : ℕ → ℕ) (g : ℕ → List ℕ → �
 module _ (n : ℕ) (any : 1 ≤ n) (low high : ℕ → ℕ) (g : ℕ → List ℕ → ℕ → ℕ) (floor : (k : ℕ) (bs : List ℕ) (v : ℕ) → low k ≤ g k bs v)
     (up : (k : ℕ) (xs bs : List ℕ) → k < n → BoundsWithin n low high xs → BoundsWithin n low high bs → ((j : ℕ) → j < n → (j ≡ k → ⊥) → get_or xs j 0 ≤ get_or bs j 0)
     → (v w : ℕ) → low k ≤ v → v ≤ w → w ≤ high k → g k xs v ≤ g k bs w) where
-  step-below : (bs : List ℕ) → Under n low high g bs → (k : ℕ) → k < n → (o : List ℕ) → BoundsWithin n low high o → Held n g o → g k bs (get_or bs k 0) ≤ get_or o k 0
-  step-below bs u k l o w s =
+  step_below : (bs : List ℕ) → Under n low high g bs → (k : ℕ) → k < n → (o : List ℕ) → BoundsWithin n low high o → Held n g o → g k bs (get_or bs k 0) ≤ get_or o k 0
+  step_below bs u k l o w s =
       let h = up k bs o l u.within w (λ j i e. u.below o w s j i) (get_or bs k 0) (get_or o k 0) (u.within k l).0 (u.below o w s k l) (w k l).1 in
       let t = s k l in omega arith
 
-  step-under : (bs : List ℕ) → Under n low high g bs → length bs ≡ n → (k : ℕ) → k < n → (w : ℕ) → g k bs (get_or bs k 0) ≡ w → w ≤ high k → Under n low high g (set bs k w)
-  step-under bs u long k here w e le =
+  step_under : (bs : List ℕ) → Under n low high g bs → length bs ≡ n → (k : ℕ) → k < n → (w : ℕ) → g k bs (get_or bs k 0) ≡ w → w ≤ high k → Under n low high g (set bs k w)
+  step_under bs u long k here w e le =
       let new : get_or (set bs k w) k 0 ≡ w = get_or-set_same bs k w 0 (omega arith) in
       let f = floor k bs (get_or bs k 0) in
       record {
@@ -42,7 +42,7 @@ module _ (n : ℕ) (any : 1 ≤ n) (low high : ℕ → ℕ) (g : ℕ → List �
             (cases_eq j k);
         below = λ o wo so j l.
             ⊎_elim
-            (λ i. subst (λ i. get_or (set bs k w) i 0 ≤ get_or o i 0) (sym i) (let h = step-below bs u k here o wo so in omega arith))
+            (λ i. subst (λ i. get_or (set bs k w) i 0 ≤ get_or o i 0) (sym i) (let h = step_below bs u k here o wo so in omega arith))
             (λ d. let s = get_or-set_other bs k j w 0 d in let h = u.below o wo so j l in omega arith)
             (cases_eq j k);
       }
@@ -58,5 +58,5 @@ module _ (n : ℕ) (any : 1 ≤ n) (low high : ℕ → ℕ) (g : ℕ → List �
       (λ e. u)
       (λ w e pos.
       cond_both (leb w (high k)) (raised n high g r (set bs k w)) None Answer
-      (λ t. raised_is r (set bs k w) (step-under bs u long k here w e (leb-true w (high k) t)) (length-set bs k w ∙ long))
-      (λ f o wo so. let h = step-below bs u k here o wo so in let t = wo k here in omega (arith, leb-false w (high k) f)))
+      (λ t. raised_is r (set bs k w) (step_under bs u long k here w e (leb-true w (high k) t)) (length-set bs k w ∙ long))
+      (λ f o wo so. let h = step_below bs u k here o wo so in let t = wo k here in omega (arith, leb-false w (high k) f)))

@@ -4,11 +4,11 @@
 use Rattle.std.specs.Prelude.{◌≡◌, ℕ, ◌-◌, ◌≤◌, List, map, reverse, length}
 use Rattle.interference.specs.Questions.{Query}
 use Rattle.interference.specs.Shares.{workload}
-use Rattle.interference.specs.Sums.{full-sum, limited-sum, layered}
+use Rattle.interference.specs.Sums.{full_sum, limited_sum, layered}
 use Rattle.interference.specs.Laws.{Lawful}
 use Rattle.analysis.specs.declared.task.Task.{Task}
 use Rattle.analysis.specs.Passing.{Passes}
-use Rattle.analysis.specs.Rivals.{TasksWithinLimits, cost-of}
+use Rattle.analysis.specs.Rivals.{TasksWithinLimits, cost_of}
 use Rattle.analysis.specs.Plans.{IsOrder, IsChoice, NoLengths, FirstPlan}
 use Rattle.analysis.specs.Bounds.{LeastSolution, NoSolution}
 
@@ -27,9 +27,9 @@ pub data Rules : Type 0 where
   handled : ℕ → ℕ → Rules
 
 abbrev pub sum_of : Rules → Query → ℕ
-sum_of full = full-sum
-sum_of limited = limited-sum
-sum_of (handled c g) = λ q. layered c g q (full-sum q)
+sum_of full = full_sum
+sum_of limited = limited_sum
+sum_of (handled c g) = λ q. layered c g q (full_sum q)
 
 -- tasks in an order on some cores under a rule
 pub record Setting : Type 0 where
@@ -43,7 +43,7 @@ abbrev pub count : Setting → ℕ
 count s = length s.tasks
 
 abbrev pub sizes : Setting → ℕ → ℕ
-sizes s = cost-of s.tasks
+sizes s = cost_of s.tasks
 
 -- rule, cores and tasks are within the limits, and the order names each task once
 pub record Fitting (s : Setting) : Type 0 where
@@ -63,10 +63,10 @@ pub data Line : Type 0 where
   fails : Setting → List ℕ → ℕ → Line
   no_lengths : Setting → Line
   -- the order is that of the first plan, with these lengths
-  first-plan : Setting → List ℕ → Line
+  first_plan : Setting → List ℕ → Line
   -- with these lengths, the least bounds are the others
-  least-bounds : Setting → List ℕ → List ℕ → Line
-  no-bounds : Setting → List ℕ → Line
+  least_bounds : Setting → List ℕ → List ℕ → Line
+  no_bounds : Setting → List ℕ → Line
 
 -- a relation of a rule, cores, tasks and an order, at a setting
 abbrev pub at {ℓ} : {X : Type ℓ} → ((Query → ℕ) → ℕ → List Task → List ℕ → X) → Setting → X
@@ -85,6 +85,6 @@ Means (work c p x w) = workload c p x ≡ w
 Means (passes s lens k) = Numbered s lens k × at Passes s lens (k - 1)
 Means (fails s lens k) = Numbered s lens k × (at Passes s lens (k - 1) → ⊥)
 Means (no_lengths s) = Fitting s × at NoLengths s
-Means (first-plan s lens) = Fitting s × at FirstPlan s lens
-Means (least-bounds s lens bounds) = Arranged s lens × at LeastSolution s lens bounds
-Means (no-bounds s lens) = Arranged s lens × at NoSolution s lens
+Means (first_plan s lens) = Fitting s × at FirstPlan s lens
+Means (least_bounds s lens bounds) = Arranged s lens × at LeastSolution s lens bounds
+Means (no_bounds s lens) = Arranged s lens × at NoSolution s lens

@@ -2,10 +2,10 @@ ghost use Rattle.std.specs.Prelude.{◌≡◌, ℕ, min, map, length, take, drop
 ghost use Rattle.interference.specs.Laws.{Steady};
 ghost use Rattle.planner.specs.Tables.{held};
 ghost use Rattle.planner.specs.History.{still};
-ghost use Rattle.planner.specs.Replaying.{sum-under, Steadily, request, state};
+ghost use Rattle.planner.specs.Replaying.{sum_under, Steadily, request, state};
 ghost use Rattle.planner.specs.Promises.{Promises};
-ghost use Rattle.examples.specs.Outsider.{twice-sum, layered-twice};
-ghost use Rattle.examples.specs.TwiceLaws.{twice-lawful};
+ghost use Rattle.examples.specs.Outsider.{twice_sum, layered_twice};
+ghost use Rattle.examples.specs.TwiceLaws.{twice_lawful};
 
 use interference::full::Full;
 use interference::handler::Handler;
@@ -22,9 +22,9 @@ const SUM_LIMIT: u32 = 1_000_000_000;
 pub struct Twice;
 
 impl Rule for Twice {
-    ghost meaning = { λ _ q. twice-sum q };
+    ghost meaning = { λ _ q. twice_sum q };
 
-    ghost laws = { λ s. twice-lawful };
+    ghost laws = { λ s. twice_lawful };
 
     fn sum(&self, q: &Question) -> u32 {
         (2 * Full.sum(q)).min(SUM_LIMIT)
@@ -38,7 +38,7 @@ impl SteadyRule for Twice {
 }
 
 fn twice_steadies()
-    ensures { Steady twice-sum }
+    ensures { Steady twice_sum }
 {}
 
 // What a sequence of calls may rely on, of tables under a handler over this rule: the promises speak of its sums.
@@ -48,7 +48,7 @@ pub fn replay_twice(
     reports: &mut [Report],
 ) -> (usize, Table<Handler<Twice>, Handler<Twice>>)
     ensures count { result.0 ≡ min (length calls.items) (length reports.old) }
-    ensures promises { Promises (sum-under layered-twice layered-twice) Steadily (still (held table)) (map request (take result.0 calls.items)) (take result.0 reports.new) (state result.1) }
+    ensures promises { Promises (sum_under layered_twice layered_twice) Steadily (still (held table)) (map request (take result.0 calls.items)) (take result.0 reports.new) (state result.1) }
     ensures rest { drop result.0 reports.new ≡ drop result.0 reports.old }
 {
     replay(table, calls, reports)

@@ -4,6 +4,6 @@ use Rattle.interference.specs.declared.choice.Choice.{Choice}
 use Rattle.interference.specs.declared.choice.Choice.TheVariants.{First, Second}
 use Rattle.interference.specs.Questions.{Query}
 
-abbrev pub chosen-sum : {X Y : Type 0} → (X → Query → ℕ) → (Y → Query → ℕ) → Choice X Y → Query → ℕ
-chosen-sum f g (First x) = f x
-chosen-sum f g (Second y) = g y
+abbrev pub chosen_sum : {X Y : Type 0} → (X → Query → ℕ) → (Y → Query → ℕ) → Choice X Y → Query → ℕ
+chosen_sum f g (First x) = f x
+chosen_sum f g (Second y) = g y

@@ -6,9 +6,9 @@ use Rattle.std.proofs.lemmas.List.Sums.{sum_by-cons}
 use Rattle.std.proofs.ByRecursion.{All-append}
 
 -- one list, two functions
-pub sumBy-mono : {X : Type 0} (P : X → Type 0) (f g : X → ℕ) → ((x : X) → P x → f x ≤ g x) → (xs : List X) → All P xs → sum_by f xs ≤ sum_by g xs
-sumBy-mono P f g le [] a = omega arith
-sumBy-mono P f g le (x ∷ xs) a = omega (arith, sum_by-cons f x xs, sum_by-cons g x xs, le x a.0, sumBy-mono P f g le xs a.1)
+pub sum_by_mono : {X : Type 0} (P : X → Type 0) (f g : X → ℕ) → ((x : X) → P x → f x ≤ g x) → (xs : List X) → All P xs → sum_by f xs ≤ sum_by g xs
+sum_by_mono P f g le [] a = omega arith
+sum_by_mono P f g le (x ∷ xs) a = omega (arith, sum_by-cons f x xs, sum_by-cons g x xs, le x a.0, sum_by_mono P f g le xs a.1)
 
 -- a list compared with itself
 pub each_all : {X : Type 0} (P : X → Type 0) (R : X → X → Type 0) → ((x : X) → P x → R x x) → (xs : List X) → All P xs → AllZip R xs xs

@@ -21,11 +21,11 @@ RivalWithinLimits r = (r.cost ≤ r.finish) × (r.finish ≤ 65535) × (r.cost �
 abbrev pub nobody : Rival
 nobody = record { cost = 0; period = 0; finish = 0 }
 
-abbrev pub rival-at : List Rival → ℕ → Rival
-rival-at rs i = slice_index_or rs i nobody
+abbrev pub rival_at : List Rival → ℕ → Rival
+rival_at rs i = slice_index_or rs i nobody
 
 abbrev pub RivalsWithinLimits : List Rival → Type 0
-RivalsWithinLimits rs = (i : ℕ) → i < length rs → RivalWithinLimits (rival-at rs i)
+RivalsWithinLimits rs = (i : ℕ) → i < length rs → RivalWithinLimits (rival_at rs i)
 
 abbrev pub TimesWithinLimits : Query → Type 0
 TimesWithinLimits q = (1 ≤ q.demand) × (q.demand ≤ q.window) × (q.window ≤ 65535) × (1 ≤ q.region) × (q.region ≤ 65535)
@@ -41,32 +41,32 @@ pub record Valid (q : Query) : Type 0 where
   pub lowers : RivalsWithinLimits q.lower
 
 -- the same question with another window
-abbrev pub with-window : Query → ℕ → Query
-with-window q l = posed q.cores l q.demand q.region q.upper q.lower
+abbrev pub with_window : Query → ℕ → Query
+with_window q l = posed q.cores l q.demand q.region q.upper q.lower
 
 -- the same question with other rivals
-abbrev pub with-upper : Query → List Rival → Query
-with-upper q us = posed q.cores q.window q.demand q.region us q.lower
+abbrev pub with_upper : Query → List Rival → Query
+with_upper q us = posed q.cores q.window q.demand q.region us q.lower
 
-abbrev pub with-lower : Query → List Rival → Query
-with-lower q ls = posed q.cores q.window q.demand q.region q.upper ls
+abbrev pub with_lower : Query → List Rival → Query
+with_lower q ls = posed q.cores q.window q.demand q.region q.upper ls
 
 -- the same rival with another latest finish, or with another cost
-abbrev pub with-finish : Rival → ℕ → Rival
-with-finish r j = record { cost = r.cost; period = r.period; finish = j }
+abbrev pub with_finish : Rival → ℕ → Rival
+with_finish r j = record { cost = r.cost; period = r.period; finish = j }
 
-abbrev pub with-cost : Rival → ℕ → Rival
-with-cost r c = record { cost = c; period = r.period; finish = r.finish }
+abbrev pub with_cost : Rival → ℕ → Rival
+with_cost r c = record { cost = c; period = r.period; finish = r.finish }
 
 -- the same question, but that one rival finishes by j at the latest, or that one lower rival costs c
-abbrev pub upper-finishing : Query → ℕ → ℕ → Query
-upper-finishing q i j = with-upper q (slice_set q.upper i (with-finish (rival-at q.upper i) j))
+abbrev pub upper_finishing : Query → ℕ → ℕ → Query
+upper_finishing q i j = with_upper q (slice_set q.upper i (with_finish (rival_at q.upper i) j))
 
-abbrev pub lower-finishing : Query → ℕ → ℕ → Query
-lower-finishing q i j = with-lower q (slice_set q.lower i (with-finish (rival-at q.lower i) j))
+abbrev pub lower_finishing : Query → ℕ → ℕ → Query
+lower_finishing q i j = with_lower q (slice_set q.lower i (with_finish (rival_at q.lower i) j))
 
-abbrev pub lower-costing : Query → ℕ → ℕ → Query
-lower-costing q i c = with-lower q (slice_set q.lower i (with-cost (rival-at q.lower i) c))
+abbrev pub lower_costing : Query → ℕ → ℕ → Query
+lower_costing q i c = with_lower q (slice_set q.lower i (with_cost (rival_at q.lower i) c))
 
 -- the same question with the last z ticks of the demand moved into the region
 abbrev pub moved : Query → ℕ → Query

@@ -1,4 +1,4 @@
-ghost use Rattle.interference.specs.Choosing.{chosen-sum};
+ghost use Rattle.interference.specs.Choosing.{chosen_sum};
 ghost use Rattle.interference.specs.declared.choice.Choice.TheVariants.{First, Second};
 
 use crate::question::Question;
@@ -12,7 +12,7 @@ pub enum Choice<A, B> {
 }
 
 impl<X: Rule, Y: Rule> Rule for Choice<X, Y> {
-    ghost meaning = { chosen-sum X.Rule.meaning Y.Rule.meaning };
+    ghost meaning = { chosen_sum X.Rule.meaning Y.Rule.meaning };
 
     ghost laws = { elim [ First x ↦ X.Rule.laws x | Second y ↦ Y.Rule.laws y ] };
 

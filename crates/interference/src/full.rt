@@ -1,5 +1,5 @@
-ghost use Rattle.interference.specs.Sums.{full-sum};
-ghost use Rattle.interference.specs.FullLaws.{full-lawful};
+ghost use Rattle.interference.specs.Sums.{full_sum};
+ghost use Rattle.interference.specs.FullLaws.{full_lawful};
 
 use crate::question::Question;
 use crate::rule::Rule;
@@ -10,9 +10,9 @@ use crate::shares::carry_ins;
 pub struct Full;
 
 impl Rule for Full {
-    ghost meaning = { λ _ q. full-sum q };
+    ghost meaning = { λ _ q. full_sum q };
 
-    ghost laws = { λ s. full-lawful };
+    ghost laws = { λ s. full_lawful };
 
     fn sum(&self, q: &Question) -> u32 {
         carry_ins(q, q.upper) + carry_ins(q, q.lower)

@@ -1,6 +1,6 @@
 ghost use Rattle.interference.specs.Sums.{layered};
 ghost use Rattle.std.proofs.Common.{arith};
-ghost use Rattle.interference.specs.LayerLaws.{layered-lawful};
+ghost use Rattle.interference.specs.LayerLaws.{layered_lawful};
 
 use crate::interrupt::Interrupt;
 use crate::question::Question;
@@ -19,7 +19,7 @@ pub struct Handler<R> {
 impl<R: Rule> Rule for Handler<R> {
     ghost meaning = { λ s q. layered s.interrupt.cost s.interrupt.gap q (R.Rule.meaning s.below q) };
 
-    ghost laws = { λ s. layered-lawful s.interrupt.cost s.interrupt.gap (omega arith) (R.Rule.meaning s.below) (R.Rule.laws s.below) };
+    ghost laws = { λ s. layered_lawful s.interrupt.cost s.interrupt.gap (omega arith) (R.Rule.meaning s.below) (R.Rule.laws s.below) };
 
     fn sum(&self, q: &Question) -> u32 {
         (self.below.sum(q) + handler(q, self.interrupt)).min(SUM_LIMIT)

@@ -1,7 +1,7 @@
 ghost use Rattle.std.specs.Prelude.{◌≡◌, ℕ, ◌+◌, ◌-◌, ◌<◌, ◌≤◌, max, slice_index};
-ghost use Rattle.interference.specs.Sums.{carried, greatest-total, GreatestTotal, limited-sum};
+ghost use Rattle.interference.specs.Sums.{carried, greatest_total, GreatestTotal, limited_sum};
 ghost use Rattle.interference.specs.View.{query};
-ghost use Rattle.interference.specs.LimitedLaws.{limited-lawful};
+ghost use Rattle.interference.specs.LimitedLaws.{limited_lawful};
 
 use crate::question::Question;
 use crate::rule::Rule;
@@ -12,9 +12,9 @@ use crate::shares::{carry_in, carry_ins, plain, plains};
 pub struct Limited;
 
 impl Rule for Limited {
-    ghost meaning = { λ _ q. limited-sum q };
+    ghost meaning = { λ _ q. limited_sum q };
 
-    ghost laws = { λ s. limited-lawful };
+    ghost laws = { λ s. limited_lawful };
 
     fn sum(&self, q: &Question) -> u32 {
         plains(q, q.upper) + carry_ins(q, q.lower) + (q.region - 1) + carried_work(q)
@@ -24,7 +24,7 @@ impl Rule for Limited {
 // The most that carried work adds to the plain shares, over any choice of fewer upper rivals than there are cores.
 pub fn carried_work(q: &Question) -> u32
     ensures greatest { GreatestTotal (carried (query q.now)) (q.now.cores - 1) q.now.upper.now result }
-    ensures total { result ≡ greatest-total (carried (query q.now)) (q.now.cores - 1) q.now.upper.now }
+    ensures total { result ≡ greatest_total (carried (query q.now)) (q.now.cores - 1) q.now.upper.now }
     ensures fits { result ≤ 2031585 }
 {
     // the greatest totals of at most 0, 1, .. 15 of the rivals so far

@@ -1,6 +1,6 @@
 ghost use Rattle.std.specs.Prelude.{◌≡◌, ℕ, ◌+◌, ◌-◌, ◌≤◌, length, sum_by};
 ghost use Rattle.interference.specs.Questions.{RivalWithinLimits, RivalsWithinLimits};
-ghost use Rattle.interference.specs.Shares.{workload, share-cap, carry-in-share, plain-share, handler-share};
+ghost use Rattle.interference.specs.Shares.{workload, share_cap, carry_in_share, plain_share, handler_share};
 ghost use Rattle.interference.specs.View.{query};
 
 use crate::interrupt::Interrupt;
@@ -16,27 +16,27 @@ fn work(cost: u32, period: u32, ticks: u32) -> u32
 }
 
 fn cap(q: &Question) -> u32
-    ensures { result ≡ share-cap (query q.now) }
+    ensures { result ≡ share_cap (query q.now) }
 {
     q.window - q.demand + 1
 }
 
 pub(crate) fn carry_in(q: &Question, r: &Rival) -> u32
     requires { RivalWithinLimits r.now }
-    ensures { result ≡ carry-in-share (query q.now) r.now }
+    ensures { result ≡ carry_in_share (query q.now) r.now }
 {
     work(r.cost, r.period, q.window + r.finish - r.cost).min(cap(q))
 }
 
 pub(crate) fn plain(q: &Question, r: &Rival) -> u32
     requires { RivalWithinLimits r.now }
-    ensures { result ≡ plain-share (query q.now) r.now }
+    ensures { result ≡ plain_share (query q.now) r.now }
 {
     work(r.cost, r.period, q.window).min(cap(q))
 }
 
 pub(crate) fn handler(q: &Question, i: Interrupt) -> u32
-    ensures { result ≡ handler-share i.cost i.gap (query q.now) }
+    ensures { result ≡ handler_share i.cost i.gap (query q.now) }
 {
     work(i.cost, i.gap, q.window).min(cap(q))
 }
@@ -45,7 +45,7 @@ pub(crate) fn handler(q: &Question, i: Interrupt) -> u32
 pub(crate) fn carry_ins(q: &Question, rivals: &[Rival]) -> u32
     requires limits { RivalsWithinLimits rivals.now }
     requires few { length rivals.now ≤ 31 }
-    ensures total { result ≡ sum_by (carry-in-share (query q.now)) rivals.now }
+    ensures total { result ≡ sum_by (carry_in_share (query q.now)) rivals.now }
     ensures fits { result ≤ 2031585 }
 {
     let mut sum = 0;
@@ -59,7 +59,7 @@ pub(crate) fn carry_ins(q: &Question, rivals: &[Rival]) -> u32
 pub(crate) fn plains(q: &Question, rivals: &[Rival]) -> u32
     requires limits { RivalsWithinLimits rivals.now }
     requires few { length rivals.now ≤ 31 }
-    ensures total { result ≡ sum_by (plain-share (query q.now)) rivals.now }
+    ensures total { result ≡ sum_by (plain_share (query q.now)) rivals.now }
     ensures fits { result ≤ 2031585 }
 {
     let mut sum = 0;

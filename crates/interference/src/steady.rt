@@ -1,6 +1,6 @@
 ghost use Rattle.std.specs.Prelude.{◌≡◌, ℕ, ◌<◌};
 ghost use Rattle.interference.specs.Questions.{Valid, moved};
-ghost use Rattle.interference.specs.Sums.{full-sum, limited-sum, layered};
+ghost use Rattle.interference.specs.Sums.{full_sum, limited_sum, layered};
 ghost use Rattle.interference.specs.Laws.{Steady, alone};
 
 use crate::choice::Choice;
@@ -24,7 +24,7 @@ impl SteadyRule for Full {
 }
 
 fn full_steadies()
-    ensures { Steady full-sum }
+    ensures { Steady full_sum }
 {}
 
 impl<R: SteadyRule> SteadyRule for Handler<R> {
@@ -51,11 +51,11 @@ impl<X: SteadyRule, Y: SteadyRule> SteadyRule for Choice<X, Y> {
 // The limited rule is not steady: a task alone on one core with cost and window 5 meets no interference with a
 // region of length 1, and with length 2 a push-through of one tick.
 pub fn limited_rises() -> (u32, u32)
-    ensures before { result.0 ≡ limited-sum alone }
-    ensures after { result.1 ≡ limited-sum (moved alone 1) }
+    ensures before { result.0 ≡ limited_sum alone }
+    ensures after { result.1 ≡ limited_sum (moved alone 1) }
     ensures rises { result.0 < result.1 }
     ensures valid { (Valid alone) × (Valid (moved alone 1)) }
-    ensures refuted { Steady limited-sum → ⊥ }
+    ensures refuted { Steady limited_sum → ⊥ }
 {
     limited_is_refuted();
     let before = Question {
@@ -79,5 +79,5 @@ pub fn limited_rises() -> (u32, u32)
 
 fn limited_is_refuted()
     ensures valid { (Valid alone) × (Valid (moved alone 1)) }
-    ensures refuted { Steady limited-sum → ⊥ }
+    ensures refuted { Steady limited_sum → ⊥ }
 {}

@@ -1,5 +1,5 @@
 ghost use Rattle.std.specs.Prelude.{◌≡◌, true};
-ghost use Rattle.plan_file.specs.Requests.{fix-then-plan};
+ghost use Rattle.plan_file.specs.Requests.{fix_then_plan};
 
 use interference::full::Full;
 use planner::replay::Call;
@@ -12,5 +12,5 @@ mod making;
 pub struct Desk {
     pub(crate) sheet: Sheet,
     pub(crate) calls: Vec<Call<Full, Full>>,
-    ghost planned: { fix-then-plan calls.items ≡ true },
+    ghost planned: { fix_then_plan calls.items ≡ true },
 }

@@ -1,12 +1,12 @@
 ghost use Rattle.std.specs.Prelude.{◌≡◌, ◌≤◌, true, length};
 ghost use Rattle.planner.specs.Tables.{held, holds};
 ghost use Rattle.planner.specs.Refusals.{number};
-ghost use Rattle.plan_file.specs.Requests.{fix-then-plan};
+ghost use Rattle.plan_file.specs.Requests.{fix_then_plan};
 ghost use Rattle.planner.specs.Reading.{over};
-ghost use Rattle.table_file.specs.FileText.{file-text};
-ghost use Rattle.table_file.specs.Stored.{of-fixed};
-ghost use Rattle.table_file.specs.Notices.{notice-line};
-ghost use Rattle.plan_file.specs.Answers.{Answered, Planned, PlanAnswered, refusal-notice};
+ghost use Rattle.table_file.specs.FileText.{file_text};
+ghost use Rattle.table_file.specs.Stored.{of_fixed};
+ghost use Rattle.table_file.specs.Notices.{notice_line};
+ghost use Rattle.plan_file.specs.Answers.{Answered, Planned, PlanAnswered, refusal_notice};
 
 use crate::desk::Desk;
 use interference::full::Full;
@@ -35,7 +35,7 @@ pub fn plan_file(file: &[u8], desk: Desk, text: &mut [u8; 1024]) -> usize
 
 // The answer for a table.
 fn plan_table(table: OpenTable, calls: Vec<Call<Full, Full>>, text: &mut [u8; 1024]) -> usize
-    requires { fix-then-plan calls.items ≡ true }
+    requires { fix_then_plan calls.items ≡ true }
     ensures { PlanAnswered (held table) result text.old text.new }
 {
     match plan(table, calls) {
@@ -46,7 +46,7 @@ fn plan_table(table: OpenTable, calls: Vec<Call<Full, Full>>, text: &mut [u8; 10
 
 // Fixes the table and seeks a plan; the outcome of the second call says whether there is one.
 fn plan(table: OpenTable, calls: Vec<Call<Full, Full>>) -> Result<FixedTable<Full>, Refusal>
-    requires { fix-then-plan calls.items ≡ true }
+    requires { fix_then_plan calls.items ≡ true }
     ensures { Planned (held table) result }
 {
     let mut reports = [Report::BLANK; 2];
@@ -62,7 +62,7 @@ fn plan(table: OpenTable, calls: Vec<Call<Full, Full>>) -> Result<FixedTable<Ful
 
 // The notice of a search that was refused has no line and column.
 fn seek_notice(refusal: Refusal) -> Notice
-    ensures { result ≡ refusal-notice (number refusal) }
+    ensures { result ≡ refusal_notice (number refusal) }
 {
     Notice {
         number: refusal.number(),
@@ -74,8 +74,8 @@ fn seek_notice(refusal: Refusal) -> Notice
 
 // Writes a notice; there is room for one.
 fn put(notice: Notice, text: &mut [u8; 1024]) -> usize
-    ensures count { result ≡ length (notice-line notice) }
-    ensures text { text.new ≡ over (notice-line notice) text.old }
+    ensures count { result ≡ length (notice_line notice) }
+    ensures text { text.new ≡ over (notice_line notice) text.old }
 {
     match write_notice(notice, text) {
         Ok(n) => n,
@@ -86,8 +86,8 @@ fn put(notice: Notice, text: &mut [u8; 1024]) -> usize
 // Writes the file of a planned table; there is room for eight tasks.
 fn write_plan(table: &FixedTable<Full>, text: &mut [u8; 1024]) -> usize
     requires { length (holds table.now).tasks ≤ 8 }
-    ensures count { result ≡ length (file-text (of-fixed (holds table.now))) }
-    ensures text { text.new ≡ over (file-text (of-fixed (holds table.now))) text.old }
+    ensures count { result ≡ length (file_text (of_fixed (holds table.now))) }
+    ensures text { text.new ≡ over (file_text (of_fixed (holds table.now))) text.old }
 {
     let _rows = table.rows();
     match write_fixed(table, text) {

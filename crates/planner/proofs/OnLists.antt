@@ -14,33 +14,33 @@ partly_more xs old i x h k e =
     ∙ set_at (take i xs) (get_or old i 0) (drop (i + 1) old) x i (length-take-le i xs (omega arith))
     ∙ sym (ap (λ l. l ++ drop (i + 1) old) (take_more xs i 0 h ∙ ap (λ y. take i xs ++ y ∷ []) (sym e)) ∙ append_assoc (take i xs) (x ∷ []) (drop (i + 1) old))
 
-partly-all : (xs old : List ℕ) (n : ℕ) → n ≡ length xs → partly xs n old ≡ over xs old
-partly-all xs old n e = ap (λ m. take m xs ++ drop m old) e ∙ ap (λ l. l ++ drop (length xs) old) (take_all (length xs) xs (omega arith))
+partly_all : (xs old : List ℕ) (n : ℕ) → n ≡ length xs → partly xs n old ≡ over xs old
+partly_all xs old n e = ap (λ m. take m xs ++ drop m old) e ∙ ap (λ l. l ++ drop (length xs) old) (take_all (length xs) xs (omega arith))
 
 -- what f gives of the tasks as they stand, over a list that was old
 module _ (f : ℕ → ℕ) (q old was : List ℕ) where
-  column-length : length (map f (reverse q)) ≡ length q
-  column-length = length-map (reverse q) f ∙ length-reverse q
+  column_length : length (map f (reverse q)) ≡ length q
+  column_length = length-map (reverse q) f ∙ length-reverse q
 
-  pub column-more : (p x : ℕ) → p < length q → length q ≤ length old → was ≡ partly (map f (reverse q)) p old → x ≡ f (get_or q (length q - 1 - p) 0)
+  pub column_more : (p x : ℕ) → p < length q → length q ≤ length old → was ≡ partly (map f (reverse q)) p old → x ≡ f (get_or q (length q - 1 - p) 0)
       → set was p x ≡ partly (map f (reverse q)) (p + 1) old
-  column-more p x h k e g =
+  column_more p x h k e g =
       ap (λ l. set l p x) e
-      ∙ partly_more (map f (reverse q)) old p x (omega (arith, column-length)) (omega arith)
+      ∙ partly_more (map f (reverse q)) old p x (omega (arith, column_length)) (omega arith)
       (g ∙ ap f (sym (get_or-reverse q p 0 h)) ∙ sym (get_or-map f (reverse q) p 0 0 (omega (arith, length-reverse q))))
 
-  pub column-all : (p : ℕ) → p ≡ length q → was ≡ partly (map f (reverse q)) p old → was ≡ over (map f (reverse q)) old
-  column-all p h e = e ∙ partly-all (map f (reverse q)) old p (h ∙ sym column-length)
+  pub column_all : (p : ℕ) → p ≡ length q → was ≡ partly (map f (reverse q)) p old → was ≡ over (map f (reverse q)) old
+  column_all p h e = e ∙ partly_all (map f (reverse q)) old p (h ∙ sym column_length)
 
-pub length-standing : (q : List ℕ) → length (standing q) ≡ length q
-length-standing q = length-map (reverse q) (λ k. k + 1) ∙ length-reverse q
+pub length_standing : (q : List ℕ) → length (standing q) ≡ length q
+length_standing q = length-map (reverse q) (λ k. k + 1) ∙ length-reverse q
 
 -- an order as it was given, if it names no task by 0
-pub standing-upward : (xs : List ℕ) → ((p : ℕ) → p < length xs → 1 ≤ get_or xs p 0) → standing (upward xs) ≡ xs
-standing-upward [] h = refl
-standing-upward (x ∷ xs) h =
+pub standing_upward : (xs : List ℕ) → ((p : ℕ) → p < length xs → 1 ≤ get_or xs p 0) → standing (upward xs) ≡ xs
+standing_upward [] h = refl
+standing_upward (x ∷ xs) h =
     ap (map (λ k. k + 1)) (reverse-append (upward xs) ((x - 1) ∷ []))
-    ∙ (λ i. first i ∷ standing-upward xs (λ p l. h (suc p) (omega arith)) i)
+    ∙ (λ i. first i ∷ standing_upward xs (λ p l. h (suc p) (omega arith)) i)
   where
     first : x - 1 + 1 ≡ x
     first = omega (arith, h 0 (omega arith))

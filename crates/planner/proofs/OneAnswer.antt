@@ -24,8 +24,8 @@ module _ (size : ℕ → ℕ) (n : ℕ) (ok : Test) where
       let y = g.least a f.choice f.pass k (omega arith) in
       omega (arith, x, y))
 
-  pub one-plan : (q x a b : List ℕ) → length a ≡ n → length b ≡ n → FirstOrder size n ok q a → FirstOrder size n ok x b → (q ≡ x) × (a ≡ b)
-  one-plan q x a b e h f g =
+  pub one_plan : (q x a b : List ℕ) → length a ≡ n → length b ≡ n → FirstOrder size n ok q a → FirstOrder size n ok x b → (q ≡ x) × (a ≡ b)
+  one_plan q x a b e h f g =
       let same : q ≡ x = ⊎_elim
       (λ s. s)
       (λ b'. absurd (⊎_elim (λ l. g.first q f.order l a f.lengths.choice f.lengths.pass) (λ r. f.first x g.order r b g.lengths.choice g.lengths.pass) b'))

@@ -9,8 +9,8 @@ use Rattle.analysis.specs.Plans.{ChoicePasses, LeastLengths, NoLengths, FirstPla
 use Rattle.analysis.specs.Bounds.{Solution, LeastSolution, NoSolution}
 use Rattle.planner.specs.declared.refusal.Refusal.{Refusal}
 use Rattle.planner.specs.Refusals.{number}
-use Rattle.planner.specs.Tables.{Open, opened, Fixed, fixed, downward, new-fixed}
-use Rattle.planner.specs.Calls.{CoresWithinLimits, HasTask, task-numbered, with-cost, upward, NamesEach, LengthFits, CoresRefuses, EnterRefuses, StrikeRefuses, AmendRefuses, OrderRefuses, StretchRefuses, LengthsRefuses, PlanRefuses, BoundsRefuses}
+use Rattle.planner.specs.Tables.{Open, opened, Fixed, fixed, downward, new_fixed}
+use Rattle.planner.specs.Calls.{CoresWithinLimits, HasTask, task_numbered, with_cost, upward, NamesEach, LengthFits, CoresRefuses, EnterRefuses, StrikeRefuses, AmendRefuses, OrderRefuses, StretchRefuses, LengthsRefuses, PlanRefuses, BoundsRefuses}
 
 -- a call with its input
 pub data Request (U : Type 0) : Type 0 where
@@ -21,23 +21,23 @@ pub data Request (U : Type 0) : Type 0 where
   fix : U → Request U
   order : List ℕ → Request U
   stretch : ℕ → ℕ → Request U
-  seek-lengths : Request U
-  quick-lengths : Request U
-  seek-plan : Request U
-  quick-plan : Request U
-  seek-bounds : Request U
+  seek_lengths : Request U
+  quick_lengths : Request U
+  seek_plan : Request U
+  quick_plan : Request U
+  seek_bounds : Request U
   reopen : Request U
 
 -- cores and tasks; of a fixed table also the rule, the order and the lengths
 pub data Setup (U : Type 0) : Type 0 where
   unfixed : ℕ → List Task → Setup U
-  fixed-by : U → ℕ → List Task → List ℕ → List ℕ → Setup U
+  fixed_by : U → ℕ → List Task → List ℕ → List ℕ → Setup U
 
 -- what came of a call
 pub data Came : Type 0 where
   done : Came
   refused : ℕ → Came
-  not-applicable : Came
+  not_applicable : Came
 
 -- a table between two calls, with its marks and bounds
 pub data State (U : Type 0) : Type 0 where
@@ -46,11 +46,11 @@ pub data State (U : Type 0) : Type 0 where
 
 abbrev pub setup : {U : Type 0} → State U → Setup U
 setup (still m) = unfixed m.cores m.tasks
-setup (joined u m) = fixed-by u m.cores m.tasks m.order m.lengths
+setup (joined u m) = fixed_by u m.cores m.tasks m.order m.lengths
 
 -- what a setup says of a fixed table
-abbrev pub of-setup : ℕ → List Task → List ℕ → List ℕ → Fixed
-of-setup m ts q ls = fixed m ts q ls [] false false
+abbrev pub of_setup : ℕ → List Task → List ℕ → List ℕ → Fixed
+of_setup m ts q ls = fixed m ts q ls [] false false
 
 module _ {U : Type 0} (meaning : U → Query → ℕ) (Quick : U → Type 0) where
   -- the refusal, by its number, that a call gets for a condition on the setup and its input
@@ -62,32 +62,32 @@ module _ {U : Type 0} (meaning : U → Query → ℕ) (Quick : U → Type 0) whe
   Refuses (unfixed m ts) (fix u) k = ⊥
   Refuses (unfixed m ts) (order xs) k = ⊥
   Refuses (unfixed m ts) (stretch i l) k = ⊥
-  Refuses (unfixed m ts) seek-lengths k = ⊥
-  Refuses (unfixed m ts) quick-lengths k = ⊥
-  Refuses (unfixed m ts) seek-plan k = ⊥
-  Refuses (unfixed m ts) quick-plan k = ⊥
-  Refuses (unfixed m ts) seek-bounds k = ⊥
+  Refuses (unfixed m ts) seek_lengths k = ⊥
+  Refuses (unfixed m ts) quick_lengths k = ⊥
+  Refuses (unfixed m ts) seek_plan k = ⊥
+  Refuses (unfixed m ts) quick_plan k = ⊥
+  Refuses (unfixed m ts) seek_bounds k = ⊥
   Refuses (unfixed m ts) reopen k = ⊥
-  Refuses (fixed-by u m ts q ls) (cores c) k = ⊥
-  Refuses (fixed-by u m ts q ls) (enter t) k = ⊥
-  Refuses (fixed-by u m ts q ls) (strike i) k = ⊥
-  Refuses (fixed-by u m ts q ls) (amend i c) k = ⊥
-  Refuses (fixed-by u m ts q ls) (fix v) k = ⊥
-  Refuses (fixed-by u m ts q ls) (order xs) k = OrderRefuses (of-setup m ts q ls) xs k
-  Refuses (fixed-by u m ts q ls) (stretch i l) k = StretchRefuses (of-setup m ts q ls) i l k
-  Refuses (fixed-by u m ts q ls) seek-lengths k = LengthsRefuses (of-setup m ts q ls) (meaning u) k
-  Refuses (fixed-by u m ts q ls) quick-lengths k = Quick u × LengthsRefuses (of-setup m ts q ls) (meaning u) k
-  Refuses (fixed-by u m ts q ls) seek-plan k = PlanRefuses (of-setup m ts q ls) (meaning u) k
-  Refuses (fixed-by u m ts q ls) quick-plan k = Quick u × PlanRefuses (of-setup m ts q ls) (meaning u) k
-  Refuses (fixed-by u m ts q ls) seek-bounds k = BoundsRefuses (of-setup m ts q ls) (meaning u) k
-  Refuses (fixed-by u m ts q ls) reopen k = ⊥
+  Refuses (fixed_by u m ts q ls) (cores c) k = ⊥
+  Refuses (fixed_by u m ts q ls) (enter t) k = ⊥
+  Refuses (fixed_by u m ts q ls) (strike i) k = ⊥
+  Refuses (fixed_by u m ts q ls) (amend i c) k = ⊥
+  Refuses (fixed_by u m ts q ls) (fix v) k = ⊥
+  Refuses (fixed_by u m ts q ls) (order xs) k = OrderRefuses (of_setup m ts q ls) xs k
+  Refuses (fixed_by u m ts q ls) (stretch i l) k = StretchRefuses (of_setup m ts q ls) i l k
+  Refuses (fixed_by u m ts q ls) seek_lengths k = LengthsRefuses (of_setup m ts q ls) (meaning u) k
+  Refuses (fixed_by u m ts q ls) quick_lengths k = Quick u × LengthsRefuses (of_setup m ts q ls) (meaning u) k
+  Refuses (fixed_by u m ts q ls) seek_plan k = PlanRefuses (of_setup m ts q ls) (meaning u) k
+  Refuses (fixed_by u m ts q ls) quick_plan k = Quick u × PlanRefuses (of_setup m ts q ls) (meaning u) k
+  Refuses (fixed_by u m ts q ls) seek_bounds k = BoundsRefuses (of_setup m ts q ls) (meaning u) k
+  Refuses (fixed_by u m ts q ls) reopen k = ⊥
 
   -- the lengths, or the plan, that a search makes of a setup
   abbrev pub GetsLengths : U → ℕ → List Task → List ℕ → Setup U → Type 0
-  GetsLengths u m ts q s = (lens : List ℕ) × (length lens ≡ length ts) × LeastLengths (meaning u) m ts q lens × (s ≡ fixed-by u m ts q lens)
+  GetsLengths u m ts q s = (lens : List ℕ) × (length lens ≡ length ts) × LeastLengths (meaning u) m ts q lens × (s ≡ fixed_by u m ts q lens)
 
   abbrev pub GetsPlan : U → ℕ → List Task → Setup U → Type 0
-  GetsPlan u m ts s = (length ts ≤ 8) × ((q : List ℕ) × (lens : List ℕ) × (length lens ≡ length ts) × FirstPlan (meaning u) m ts q lens × (s ≡ fixed-by u m ts q lens))
+  GetsPlan u m ts s = (length ts ≤ 8) × ((q : List ℕ) × (lens : List ℕ) × (length lens ≡ length ts) × FirstPlan (meaning u) m ts q lens × (s ≡ fixed_by u m ts q lens))
 
   -- the setup that a call makes of another
   abbrev pub Makes : Setup U → Request U → Setup U → Type 0
@@ -95,29 +95,29 @@ module _ {U : Type 0} (meaning : U → Query → ℕ) (Quick : U → Type 0) whe
   Makes (unfixed m ts) (enter t) s = (length ts < 32) × TaskWithinLimits t × (s ≡ unfixed m (ts ++ t ∷ []))
   Makes (unfixed m ts) (strike i) s = HasTask ts i × (s ≡ unfixed m (take (i - 1) ts ++ drop i ts))
   Makes (unfixed m ts) (amend i c) s =
-      HasTask ts i × TaskWithinLimits (with-cost (task-numbered ts i) c) × (s ≡ unfixed m (slice_set ts (i - 1) (with-cost (task-numbered ts i) c)))
-  Makes (unfixed m ts) (fix u) s = s ≡ fixed-by u m ts (downward (length ts)) (replicate (length ts) 1)
+      HasTask ts i × TaskWithinLimits (with_cost (task_numbered ts i) c) × (s ≡ unfixed m (slice_set ts (i - 1) (with_cost (task_numbered ts i) c)))
+  Makes (unfixed m ts) (fix u) s = s ≡ fixed_by u m ts (downward (length ts)) (replicate (length ts) 1)
   Makes (unfixed m ts) (order xs) s = ⊥
   Makes (unfixed m ts) (stretch i l) s = ⊥
-  Makes (unfixed m ts) seek-lengths s = ⊥
-  Makes (unfixed m ts) quick-lengths s = ⊥
-  Makes (unfixed m ts) seek-plan s = ⊥
-  Makes (unfixed m ts) quick-plan s = ⊥
-  Makes (unfixed m ts) seek-bounds s = ⊥
+  Makes (unfixed m ts) seek_lengths s = ⊥
+  Makes (unfixed m ts) quick_lengths s = ⊥
+  Makes (unfixed m ts) seek_plan s = ⊥
+  Makes (unfixed m ts) quick_plan s = ⊥
+  Makes (unfixed m ts) seek_bounds s = ⊥
   Makes (unfixed m ts) reopen s = ⊥
-  Makes (fixed-by u m ts q ls) (cores c) s = ⊥
-  Makes (fixed-by u m ts q ls) (enter t) s = ⊥
-  Makes (fixed-by u m ts q ls) (strike i) s = ⊥
-  Makes (fixed-by u m ts q ls) (amend i c) s = ⊥
-  Makes (fixed-by u m ts q ls) (fix v) s = ⊥
-  Makes (fixed-by u m ts q ls) (order xs) s = NamesEach (length ts) xs × (s ≡ fixed-by u m ts (upward xs) ls)
-  Makes (fixed-by u m ts q ls) (stretch i l) s = HasTask ts i × LengthFits (of-setup m ts q ls) i l × (s ≡ fixed-by u m ts q (slice_set ls (i - 1) l))
-  Makes (fixed-by u m ts q ls) seek-lengths s = GetsLengths u m ts q s
-  Makes (fixed-by u m ts q ls) quick-lengths s = Quick u × GetsLengths u m ts q s
-  Makes (fixed-by u m ts q ls) seek-plan s = GetsPlan u m ts s
-  Makes (fixed-by u m ts q ls) quick-plan s = Quick u × GetsPlan u m ts s
-  Makes (fixed-by u m ts q ls) seek-bounds s = ((bs : List ℕ) × Solution (meaning u) m ts q ls bs) × (s ≡ fixed-by u m ts q ls)
-  Makes (fixed-by u m ts q ls) reopen s = s ≡ unfixed m ts
+  Makes (fixed_by u m ts q ls) (cores c) s = ⊥
+  Makes (fixed_by u m ts q ls) (enter t) s = ⊥
+  Makes (fixed_by u m ts q ls) (strike i) s = ⊥
+  Makes (fixed_by u m ts q ls) (amend i c) s = ⊥
+  Makes (fixed_by u m ts q ls) (fix v) s = ⊥
+  Makes (fixed_by u m ts q ls) (order xs) s = NamesEach (length ts) xs × (s ≡ fixed_by u m ts (upward xs) ls)
+  Makes (fixed_by u m ts q ls) (stretch i l) s = HasTask ts i × LengthFits (of_setup m ts q ls) i l × (s ≡ fixed_by u m ts q (slice_set ls (i - 1) l))
+  Makes (fixed_by u m ts q ls) seek_lengths s = GetsLengths u m ts q s
+  Makes (fixed_by u m ts q ls) quick_lengths s = Quick u × GetsLengths u m ts q s
+  Makes (fixed_by u m ts q ls) seek_plan s = GetsPlan u m ts s
+  Makes (fixed_by u m ts q ls) quick_plan s = Quick u × GetsPlan u m ts s
+  Makes (fixed_by u m ts q ls) seek_bounds s = ((bs : List ℕ) × Solution (meaning u) m ts q ls bs) × (s ≡ fixed_by u m ts q ls)
+  Makes (fixed_by u m ts q ls) reopen s = s ≡ unfixed m ts
 
   -- a call that is not for a table of this kind
   abbrev pub Unfit : Setup U → Request U → Type 0
@@ -128,25 +128,25 @@ module _ {U : Type 0} (meaning : U → Query → ℕ) (Quick : U → Type 0) whe
   Unfit (unfixed m ts) (fix u) = ⊥
   Unfit (unfixed m ts) (order xs) = Unit {0}
   Unfit (unfixed m ts) (stretch i l) = Unit {0}
-  Unfit (unfixed m ts) seek-lengths = Unit {0}
-  Unfit (unfixed m ts) quick-lengths = Unit {0}
-  Unfit (unfixed m ts) seek-plan = Unit {0}
-  Unfit (unfixed m ts) quick-plan = Unit {0}
-  Unfit (unfixed m ts) seek-bounds = Unit {0}
+  Unfit (unfixed m ts) seek_lengths = Unit {0}
+  Unfit (unfixed m ts) quick_lengths = Unit {0}
+  Unfit (unfixed m ts) seek_plan = Unit {0}
+  Unfit (unfixed m ts) quick_plan = Unit {0}
+  Unfit (unfixed m ts) seek_bounds = Unit {0}
   Unfit (unfixed m ts) reopen = Unit {0}
-  Unfit (fixed-by u m ts q ls) (cores c) = Unit {0}
-  Unfit (fixed-by u m ts q ls) (enter t) = Unit {0}
-  Unfit (fixed-by u m ts q ls) (strike i) = Unit {0}
-  Unfit (fixed-by u m ts q ls) (amend i c) = Unit {0}
-  Unfit (fixed-by u m ts q ls) (fix v) = Unit {0}
-  Unfit (fixed-by u m ts q ls) (order xs) = ⊥
-  Unfit (fixed-by u m ts q ls) (stretch i l) = ⊥
-  Unfit (fixed-by u m ts q ls) seek-lengths = ⊥
-  Unfit (fixed-by u m ts q ls) quick-lengths = Quick u → ⊥
-  Unfit (fixed-by u m ts q ls) seek-plan = ⊥
-  Unfit (fixed-by u m ts q ls) quick-plan = Quick u → ⊥
-  Unfit (fixed-by u m ts q ls) seek-bounds = ⊥
-  Unfit (fixed-by u m ts q ls) reopen = ⊥
+  Unfit (fixed_by u m ts q ls) (cores c) = Unit {0}
+  Unfit (fixed_by u m ts q ls) (enter t) = Unit {0}
+  Unfit (fixed_by u m ts q ls) (strike i) = Unit {0}
+  Unfit (fixed_by u m ts q ls) (amend i c) = Unit {0}
+  Unfit (fixed_by u m ts q ls) (fix v) = Unit {0}
+  Unfit (fixed_by u m ts q ls) (order xs) = ⊥
+  Unfit (fixed_by u m ts q ls) (stretch i l) = ⊥
+  Unfit (fixed_by u m ts q ls) seek_lengths = ⊥
+  Unfit (fixed_by u m ts q ls) quick_lengths = Quick u → ⊥
+  Unfit (fixed_by u m ts q ls) seek_plan = ⊥
+  Unfit (fixed_by u m ts q ls) quick_plan = Quick u → ⊥
+  Unfit (fixed_by u m ts q ls) seek_bounds = ⊥
+  Unfit (fixed_by u m ts q ls) reopen = ⊥
 
   -- The setup after a call follows from the one before it and the call: by its conditions alone, without what came of
   -- it, marks or bounds.
@@ -159,13 +159,13 @@ module _ {U : Type 0} (meaning : U → Query → ℕ) (Quick : U → Type 0) whe
   Marked (fix u) s (joined v n) = n ≡ fixed n.cores n.tasks n.order n.lengths (replicate (length n.tasks) 0) false false
   Marked (order xs) s (joined v n) = n ≡ fixed n.cores n.tasks n.order n.lengths (replicate (length n.tasks) 0) false false
   Marked (stretch i l) s (joined v n) = n ≡ fixed n.cores n.tasks n.order n.lengths (replicate (length n.tasks) 0) false false
-  Marked seek-lengths s (joined v n) = n ≡ fixed n.cores n.tasks n.order n.lengths (replicate (length n.tasks) 0) true false
-  Marked quick-lengths s (joined v n) = n ≡ fixed n.cores n.tasks n.order n.lengths (replicate (length n.tasks) 0) true false
-  Marked seek-plan s (joined v n) = n ≡ fixed n.cores n.tasks n.order n.lengths (replicate (length n.tasks) 0) true false
-  Marked quick-plan s (joined v n) = n ≡ fixed n.cores n.tasks n.order n.lengths (replicate (length n.tasks) 0) true false
-  Marked seek-bounds (joined u m) (joined v n) =
+  Marked seek_lengths s (joined v n) = n ≡ fixed n.cores n.tasks n.order n.lengths (replicate (length n.tasks) 0) true false
+  Marked quick_lengths s (joined v n) = n ≡ fixed n.cores n.tasks n.order n.lengths (replicate (length n.tasks) 0) true false
+  Marked seek_plan s (joined v n) = n ≡ fixed n.cores n.tasks n.order n.lengths (replicate (length n.tasks) 0) true false
+  Marked quick_plan s (joined v n) = n ≡ fixed n.cores n.tasks n.order n.lengths (replicate (length n.tasks) 0) true false
+  Marked seek_bounds (joined u m) (joined v n) =
       (n.passed ≡ m.passed) × (n.bounded ≡ true) × (length n.bounds ≡ length n.tasks) × LeastSolution (meaning v) n.cores n.tasks n.order n.lengths n.bounds
-  Marked seek-bounds (still m) (joined v n) = ⊥
+  Marked seek_bounds (still m) (joined v n) = ⊥
   Marked (cores c) s (joined v n) = ⊥
   Marked (enter t) s (joined v n) = ⊥
   Marked (strike i) s (joined v n) = ⊥
@@ -176,4 +176,4 @@ module _ {U : Type 0} (meaning : U → Query → ℕ) (Quick : U → Type 0) whe
   abbrev pub Turn : State U → Request U → Came → State U → Type 0
   Turn s c done s' = Makes (setup s) c (setup s') × Marked c s s'
   Turn s c (refused k) s' = Refuses (setup s) c k × (s' ≡ s)
-  Turn s c not-applicable s' = Unfit (setup s) c × (s' ≡ s)
+  Turn s c not_applicable s' = Unfit (setup s) c × (s' ≡ s)

@@ -3,12 +3,12 @@
 use Rattle.std.specs.Prelude.{◌≡◌, ℕ, ◌<◌, ◌≤◌, true, ◌⊎◌, List, [], ◌∷◌, length, ◌≢◌}
 use Rattle.interference.specs.Questions.{Query}
 use Rattle.analysis.specs.declared.task.Task.{Task}
-use Rattle.analysis.specs.Rivals.{cost-of}
+use Rattle.analysis.specs.Rivals.{cost_of}
 use Rattle.analysis.specs.Passing.{PassesOver}
 use Rattle.analysis.specs.Plans.{IsChoice, ChoicePasses, LeastLengths, NoLengths, NoPlan}
 use Rattle.analysis.specs.Bounds.{Solution, LeastSolution, NoSolution}
 use Rattle.planner.specs.declared.replay.Report.{Report}
-use Rattle.planner.specs.History.{Request, seek-lengths, quick-lengths, seek-plan, quick-plan, seek-bounds, Setup, unfixed, fixed-by, Came, done, refused, not-applicable, State, still, joined, setup, Refuses, Unfit, Follows, Marked}
+use Rattle.planner.specs.History.{Request, seek_lengths, quick_lengths, seek_plan, quick_plan, seek_bounds, Setup, unfixed, fixed_by, Came, done, refused, not_applicable, State, still, joined, setup, Refuses, Unfit, Follows, Marked}
 use Rattle.planner.specs.Replaying.{came}
 use Rattle.planner.specs.Reporting.{Shows}
 
@@ -33,12 +33,12 @@ module _ {U : Type 0} (meaning : U → Query → ℕ) (Quick : U → Type 0) whe
   -- every task passes in the standing order with its length
   abbrev pub AllPass : Setup U → Type 0
   AllPass (unfixed m ts) = ⊥
-  AllPass (fixed-by u m ts q ls) = IsChoice (cost-of ts) (length ts) ls × ChoicePasses (PassesOver (meaning u) m ts) (length ts) q ls
+  AllPass (fixed_by u m ts q ls) = IsChoice (cost_of ts) (length ts) ls × ChoicePasses (PassesOver (meaning u) m ts) (length ts) q ls
 
   -- the lengths pass, and every other choice that passes in the order gives each task at least its length here
   abbrev pub LengthsLeast : Setup U → Type 0
   LengthsLeast (unfixed m ts) = ⊥
-  LengthsLeast (fixed-by u m ts q ls) = LeastLengths (meaning u) m ts q ls
+  LengthsLeast (fixed_by u m ts q ls) = LeastLengths (meaning u) m ts q ls
 
   -- the table's bounds solve its equations; and every other solution gives each task at least its bound here
   abbrev pub BoundsSolve : State U → Type 0
@@ -51,7 +51,7 @@ module _ {U : Type 0} (meaning : U → Query → ℕ) (Quick : U → Type 0) whe
 
   -- calls that set lengths by a search
   abbrev pub SetsLengths : Request U → Type 0
-  SetsLengths c = (c ≡ seek-lengths) ⊎ ((c ≡ quick-lengths) ⊎ ((c ≡ seek-plan) ⊎ (c ≡ quick-plan)))
+  SetsLengths c = (c ≡ seek_lengths) ⊎ ((c ≡ quick_lengths) ⊎ ((c ≡ seek_plan) ⊎ (c ≡ quick_plan)))
 
   -- Of one call: the setup after it follows from the setup before it and the call, and no other setup does.
   pub record SetupFollows (s : Setup U) (c : Request U) (s' : Setup U) : Type 0 where
@@ -62,31 +62,31 @@ module _ {U : Type 0} (meaning : U → Query → ℕ) (Quick : U → Type 0) whe
   -- applicable exactly when it is not for a table of this kind, and both leave the table as it was, marks and bounds too.
   pub record RefusedExactly (s : State U) (c : Request U) (what : Came) (s' : State U) : Type 0 where
     pub by_number : (k : ℕ) → Exactly (what ≡ refused k) (Refuses meaning Quick (setup s) c k)
-    pub unfit : Exactly (what ≡ not-applicable) (Unfit meaning Quick (setup s) c)
+    pub unfit : Exactly (what ≡ not_applicable) (Unfit meaning Quick (setup s) c)
     pub untouched : (what ≢ done) → s' ≡ s
 
   -- Of one call: a seek that was carried out turned its mark on, and no mark lies.
   pub record MarksTrue (c : Request U) (what : Came) (s' : State U) : Type 0 where
     pub passed_on : what ≡ done → SetsLengths c → Passed s'
-    pub bounded-on : what ≡ done → c ≡ seek-bounds → Bounded s'
-    pub passed-true : Passed s' → AllPass (setup s')
-    pub bounded-true : Bounded s' → BoundsSolve s'
+    pub bounded_on : what ≡ done → c ≡ seek_bounds → Bounded s'
+    pub passed_true : Passed s' → AllPass (setup s')
+    pub bounded_true : Bounded s' → BoundsSolve s'
 
   -- Of one call on a fixed table: a seek is refused exactly when there is nothing to find.
   pub record NoneToFind (u : U) (m : ℕ) (ts : List Task) (q ls : List ℕ) (c : Request U) (what : Came) : Type 0 where
-    pub lengths : (c ≡ seek-lengths) ⊎ ((c ≡ quick-lengths) × Quick u) → Exactly (what ≡ refused 7) (NoLengths (meaning u) m ts q)
-    pub too_many : (c ≡ seek-plan) ⊎ ((c ≡ quick-plan) × Quick u) → Exactly (what ≡ refused 8) (8 < length ts)
-    pub plan : (c ≡ seek-plan) ⊎ ((c ≡ quick-plan) × Quick u) → length ts ≤ 8 → Exactly (what ≡ refused 9) (NoPlan (meaning u) m ts)
-    pub bounds : c ≡ seek-bounds → Exactly (what ≡ refused 10) (NoSolution (meaning u) m ts q ls)
+    pub lengths : (c ≡ seek_lengths) ⊎ ((c ≡ quick_lengths) × Quick u) → Exactly (what ≡ refused 7) (NoLengths (meaning u) m ts q)
+    pub too_many : (c ≡ seek_plan) ⊎ ((c ≡ quick_plan) × Quick u) → Exactly (what ≡ refused 8) (8 < length ts)
+    pub plan : (c ≡ seek_plan) ⊎ ((c ≡ quick_plan) × Quick u) → length ts ≤ 8 → Exactly (what ≡ refused 9) (NoPlan (meaning u) m ts)
+    pub bounds : c ≡ seek_bounds → Exactly (what ≡ refused 10) (NoSolution (meaning u) m ts q ls)
 
   abbrev pub NoneFound : Setup U → Request U → Came → Type 0
   NoneFound (unfixed m ts) c what = Unit {0}
-  NoneFound (fixed-by u m ts q ls) c what = NoneToFind u m ts q ls c what
+  NoneFound (fixed_by u m ts q ls) c what = NoneToFind u m ts q ls c what
 
   -- Of one call: lengths that a seek set, and bounds that a seek set, are the least.
   pub record SetLeast (c : Request U) (what : Came) (s' : State U) : Type 0 where
     pub lengths : what ≡ done → SetsLengths c → LengthsLeast (setup s')
-    pub bounds : what ≡ done → c ≡ seek-bounds → BoundsLeast s'
+    pub bounds : what ≡ done → c ≡ seek_bounds → BoundsLeast s'
 
   -- Something holds of each call: of the table before it, the call, its report and the table after it.
   abbrev pub OfEach : (State U → Request U → Report → State U → Type 0) → State U → List (Request U) → List Report → List (State U) → Type 0
@@ -101,11 +101,11 @@ module _ {U : Type 0} (meaning : U → Query → ℕ) (Quick : U → Type 0) whe
   pub record Promises (start : State U) (calls : List (Request U)) (reports : List Report) (end : State U) : Type 0 where
     -- the table after each call; its report shows all of it, and the last is given back
     pub after : List (State U)
-    pub reports-show-it : OfEach (λ s c r s'. Shows s' r) start calls reports after
-    pub last-is-given-back : end ≡ final start after
-    pub marks-and-bounds-are-set-by-the-call : OfEach (λ s c r s'. came r.outcome ≡ done → Marked meaning Quick c s s') start calls reports after
-    pub setup-follows-from-the-calls-alone : OfEach (λ s c r s'. SetupFollows (setup s) c (setup s')) start calls reports after
-    pub refusals-are-exact : OfEach (λ s c r s'. RefusedExactly s c (came r.outcome) s') start calls reports after
-    pub marks-tell-the-truth : OfEach (λ s c r s'. MarksTrue c (came r.outcome) s') start calls reports after
-    pub refused-seek-means-none : OfEach (λ s c r s'. NoneFound (setup s) c (came r.outcome)) start calls reports after
-    pub what-is-set-is-least : OfEach (λ s c r s'. SetLeast c (came r.outcome) s') start calls reports after
+    pub reports_show_it : OfEach (λ s c r s'. Shows s' r) start calls reports after
+    pub last_is_given_back : end ≡ final start after
+    pub marks_and_bounds_are_set_by_the_call : OfEach (λ s c r s'. came r.outcome ≡ done → Marked meaning Quick c s s') start calls reports after
+    pub setup_follows_from_the_calls_alone : OfEach (λ s c r s'. SetupFollows (setup s) c (setup s')) start calls reports after
+    pub refusals_are_exact : OfEach (λ s c r s'. RefusedExactly s c (came r.outcome) s') start calls reports after
+    pub marks_tell_the_truth : OfEach (λ s c r s'. MarksTrue c (came r.outcome) s') start calls reports after
+    pub refused_seek_means_none : OfEach (λ s c r s'. NoneFound (setup s) c (came r.outcome)) start calls reports after
+    pub what_is_set_is_least : OfEach (λ s c r s'. SetLeast c (came r.outcome) s') start calls reports after

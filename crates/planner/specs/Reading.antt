@@ -3,7 +3,7 @@ use Rattle.std.specs.Prelude.{◌≡◌, ℕ, ◌+◌, ◌≤◌, List, ◌++◌
 use Rattle.planner.specs.declared.marks.Marks.{Marks}
 use Rattle.planner.specs.declared.refusal.Refusal.{Refusal}
 use Rattle.planner.specs.Refusals.{number}
-use Rattle.analysis.specs.Rivals.{TasksWithinLimits, cost-of}
+use Rattle.analysis.specs.Rivals.{TasksWithinLimits, cost_of}
 use Rattle.analysis.specs.Plans.{IsOrder, IsChoice}
 use Rattle.planner.specs.Tables.{Open, Fixed}
 
@@ -22,7 +22,7 @@ pub record FixedWithinLimits (m : Fixed) : Type 0 where
   pub tasks : TasksWithinLimits m.tasks
   pub order : IsOrder (length m.tasks) m.order
   pub lengths : length m.lengths ≡ length m.tasks
-  pub choice : IsChoice (cost-of m.tasks) (length m.tasks) m.lengths
+  pub choice : IsChoice (cost_of m.tasks) (length m.tasks) m.lengths
   pub bounds : length m.bounds ≡ length m.tasks
 
 -- the task numbers, from 1, of an order that is kept from the lowest place up
@@ -30,8 +30,8 @@ abbrev pub standing : List ℕ → List ℕ
 standing q = map (λ k. k + 1) (reverse q)
 
 -- a list by task number, as the tasks stand
-abbrev pub as-standing : List ℕ → List ℕ → List ℕ
-as-standing q xs = map (λ k. slice_index xs k) (reverse q)
+abbrev pub as_standing : List ℕ → List ℕ → List ℕ
+as_standing q xs = map (λ k. slice_index xs k) (reverse q)
 
 -- items over the front of a list; the entries past them stay
 abbrev pub over : List ℕ → List ℕ → List ℕ
@@ -52,7 +52,7 @@ module _ (m : Fixed) where
   Room l = (length m.tasks ≤ length l.tasks) × (length m.tasks ≤ length l.lengths) × (length m.tasks ≤ length l.bounds)
 
   abbrev pub filled : Lent → Lent
-  filled l = lent (over (standing m.order) l.tasks) (over (as-standing m.order m.lengths) l.lengths) (over (as-standing m.order m.bounds) l.bounds)
+  filled l = lent (over (standing m.order) l.tasks) (over (as_standing m.order m.lengths) l.lengths) (over (as_standing m.order m.bounds) l.bounds)
 
   -- Refused by 11 where a list is too short, and then the lists are as before; or both marks are answered.
   abbrev pub ReadsOut : Result Marks Refusal → Lent → Lent → Type 0

@@ -17,45 +17,45 @@ use Rattle.planner.specs.declared.replay.Outcome.TheVariants.{Done, Refused, Not
 use Rattle.planner.specs.Refusals.{number, Called}
 use Rattle.planner.specs.Tables.{Open, Fixed, held, holds}
 use Rattle.planner.specs.Calls.{CoresRefuses, CoresMakes, EnterRefuses, EnterMakes, StrikeRefuses, StrikeMakes, AmendRefuses, AmendMakes, OrderRefuses, OrderMakes, StretchRefuses, StretchMakes, LengthsRefuses, LengthsMakes, PlanRefuses, PlanMakes, BoundsRefuses, BoundsMakes}
-use Rattle.planner.specs.History.{Request, cores, enter, strike, amend, fix, order, stretch, seek-lengths, quick-lengths, seek-plan, quick-plan, seek-bounds, reopen, State, still, joined, Came, done, refused, not-applicable}
+use Rattle.planner.specs.History.{Request, cores, enter, strike, amend, fix, order, stretch, seek_lengths, quick_lengths, seek_plan, quick_plan, seek_bounds, reopen, State, still, joined, Came, done, refused, not_applicable}
 
 -- a rule that a table was fixed under, any rule or a steady one
 pub data Under (R S : Type 0) : Type 0 where
   plainly : R → Under R S
   steadily : S → Under R S
 
-abbrev pub sum-under : {R S : Type 0} → (R → Query → ℕ) → (S → Query → ℕ) → Under R S → Query → ℕ
-sum-under f g (plainly r) = f r
-sum-under f g (steadily s) = g s
+abbrev pub sum_under : {R S : Type 0} → (R → Query → ℕ) → (S → Query → ℕ) → Under R S → Query → ℕ
+sum_under f g (plainly r) = f r
+sum_under f g (steadily s) = g s
 
 -- the quick searches are for rules that were brought as steady
 abbrev pub Steadily : {R S : Type 0} → Under R S → Type 0
 Steadily (plainly r) = ⊥
 Steadily (steadily s) = Unit {0}
 
-abbrev pub open-request : {U : Type 0} → OpenCall → Request U
-open-request (Cores c) = cores c
-open-request (Enter t) = enter t
-open-request (Strike i) = strike i
-open-request (Amend i c) = amend i c
+abbrev pub open_request : {U : Type 0} → OpenCall → Request U
+open_request (Cores c) = cores c
+open_request (Enter t) = enter t
+open_request (Strike i) = strike i
+open_request (Amend i c) = amend i c
 
-abbrev pub fixed-request : {U : Type 0} → FixedCall → Request U
-fixed-request (Order xs) = order (vec_items xs)
-fixed-request (Stretch i l) = stretch i l
-fixed-request SeekLengths = seek-lengths
-fixed-request SeekPlan = seek-plan
-fixed-request SeekBounds = seek-bounds
+abbrev pub fixed_request : {U : Type 0} → FixedCall → Request U
+fixed_request (Order xs) = order (vec_items xs)
+fixed_request (Stretch i l) = stretch i l
+fixed_request SeekLengths = seek_lengths
+fixed_request SeekPlan = seek_plan
+fixed_request SeekBounds = seek_bounds
 
-abbrev pub quick-request : {U : Type 0} → QuickCall → Request U
-quick-request Lengths = quick-lengths
-quick-request Plan = quick-plan
+abbrev pub quick_request : {U : Type 0} → QuickCall → Request U
+quick_request Lengths = quick_lengths
+quick_request Plan = quick_plan
 
 abbrev pub request : {R S : Type 0} → Call R S → Request (Under R S)
-request (call.Open c) = open-request c
+request (call.Open c) = open_request c
 request (call.Fix r) = fix (plainly r)
 request (call.FixSteady s) = fix (steadily s)
-request (call.Fixed c) = fixed-request c
-request (call.Quick c) = quick-request c
+request (call.Fixed c) = fixed_request c
+request (call.Quick c) = quick_request c
 request call.Reopen = reopen
 
 abbrev pub state : {R S : Type 0} → Table R S → State (Under R S)
@@ -66,7 +66,7 @@ state (table.Steady t) = joined (steadily t.rule) (holds t)
 abbrev pub came : Outcome → Came
 came Done = done
 came (Refused e) = refused (number e)
-came NotApplicable = not-applicable
+came NotApplicable = not_applicable
 
 abbrev pub answered : {A : Type 0} → Result A Refusal → Came
 answered (Ok x) = done

@@ -1,7 +1,7 @@
 -- What the rows of a table hold, by list.
 use Rattle.std.specs.Prelude.{◌≡◌, ℕ, ◌<◌, List, map, length, slice_index_or}
 use Rattle.analysis.specs.declared.task.Task.{Task}
-use Rattle.analysis.specs.Rivals.{no-task}
+use Rattle.analysis.specs.Rivals.{no_task}
 use Rattle.planner.specs.declared.tables.rows.Row.{Row}
 
 abbrev pub tasks : List Row → List Task
@@ -19,7 +19,7 @@ Unset r = (r.length ≡ 1) × (r.bound ≡ 0)
 
 -- read past the end of a list
 abbrev pub no_row : Row
-no_row = record { task = no-task; length = 0; bound = 0 }
+no_row = record { task = no_task; length = 0; bound = 0 }
 
 abbrev pub Fresh : List Row → Type 0
 Fresh rs = (i : ℕ) → i < length rs → Unset (slice_index_or rs i no_row)

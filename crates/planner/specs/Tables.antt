@@ -42,5 +42,5 @@ downward zero = []
 downward (suc n) = n ∷ downward n
 
 -- a table as it is fixed
-abbrev pub new-fixed : Open → Fixed
-new-fixed m = fixed m.cores m.tasks (downward (length m.tasks)) (replicate (length m.tasks) 1) (replicate (length m.tasks) 0) false false
+abbrev pub new_fixed : Open → Fixed
+new_fixed m = fixed m.cores m.tasks (downward (length m.tasks)) (replicate (length m.tasks) 1) (replicate (length m.tasks) 0) false false

@@ -5,14 +5,14 @@ use Rattle.analysis.specs.Rivals.{among}
 use Rattle.planner.specs.declared.marks.Marks.{Marks}
 use Rattle.planner.specs.declared.refusal.Refusal.{Refusal}
 use Rattle.planner.specs.Tables.{Open, Fixed}
-use Rattle.planner.specs.Reading.{OpenWithinLimits, FixedWithinLimits, ReadsOut, Lent, lent, over, standing, as-standing, Room}
+use Rattle.planner.specs.Reading.{OpenWithinLimits, FixedWithinLimits, ReadsOut, Lent, lent, over, standing, as_standing, Room}
 use Rattle.table_file.specs.declared.place.Place.{Place}
-use Rattle.table_file.specs.Stored.{Stored, of-open, of-fixed, placed, numbers, no_place, PlaceFits, EachFits, Valid}
+use Rattle.table_file.specs.Stored.{Stored, of_open, of_fixed, placed, numbers, no_place, PlaceFits, EachFits, Valid}
 use Rattle.table_file.specs.Puts.{paired, Writable}
-use Rattle.table_file.proofs.Distinct.{fresh-apart, standing_apart, standing-named, length-standing}
+use Rattle.table_file.proofs.Distinct.{fresh_apart, standing_apart, standing_named, length_standing}
 
-pub open-valid : (m : Open) → OpenWithinLimits m → Valid (of-open m)
-open-valid m w = record {
+pub open_valid : (m : Open) → OpenWithinLimits m → Valid (of_open m)
+open_valid m w = record {
   some = w.some;
   most = w.most;
   few = w.few;
@@ -22,81 +22,81 @@ open-valid m w = record {
 }
 
 -- the numbers of places that were made of numbers
-pub numbers-placed : (xs lens : List ℕ) → numbers (placed xs lens) ≡ xs
-numbers-placed [] lens = refl
-numbers-placed (x ∷ xs) lens = ap (λ l. x ∷ l) (numbers-placed xs lens)
+pub numbers_placed : (xs lens : List ℕ) → numbers (placed xs lens) ≡ xs
+numbers_placed [] lens = refl
+numbers_placed (x ∷ xs) lens = ap (λ l. x ∷ l) (numbers_placed xs lens)
 
-pub numbers-take : (n : ℕ) (ps : List Place) → numbers (take n ps) ≡ take n (numbers ps)
-numbers-take n ps = sym (take-map (λ p. p.task) n ps)
+pub numbers_take : (n : ℕ) (ps : List Place) → numbers (take n ps) ≡ take n (numbers ps)
+numbers_take n ps = sym (take-map (λ p. p.task) n ps)
 
-pub getD-placed : (xs lens : List ℕ) (p : ℕ) → p < length xs → get_or (placed xs lens) p no_place ≡ record { task = get_or xs p 0; length = get_or lens (get_or xs p 0 - 1) 0 }
-getD-placed xs lens p l = get_or-map (λ n. record { task = n; length = get_or lens (n - 1) 0 }) xs p 0 no_place l
+pub getD_placed : (xs lens : List ℕ) (p : ℕ) → p < length xs → get_or (placed xs lens) p no_place ≡ record { task = get_or xs p 0; length = get_or lens (get_or xs p 0 - 1) 0 }
+getD_placed xs lens p l = get_or-map (λ n. record { task = n; length = get_or lens (n - 1) 0 }) xs p 0 no_place l
 
-pub length-placed : (xs lens : List ℕ) → length (placed xs lens) ≡ length xs
-length-placed xs lens = length-map xs (λ n. record { task = n; length = get_or lens (n - 1) 0 })
+pub length_placed : (xs lens : List ℕ) → length (placed xs lens) ≡ length xs
+length_placed xs lens = length-map xs (λ n. record { task = n; length = get_or lens (n - 1) 0 })
 
 module _ (m : Fixed) (w : FixedWithinLimits m) where
   size : length (standing m.order) ≡ length m.tasks
-  size = length-standing m.order ∙ w.order.0
+  size = length_standing m.order ∙ w.order.0
 
-  pub places_count : length (of-fixed m).places ≡ length m.tasks
-  places_count = length-placed (standing m.order) m.lengths ∙ size
+  pub places_count : length (of_fixed m).places ≡ length m.tasks
+  places_count = length_placed (standing m.order) m.lengths ∙ size
 
-  fits-at : (p : ℕ) → p < length m.order → PlaceFits m.tasks (take p (of-fixed m).places) (record { task = get_or (standing m.order) p 0; length = get_or m.lengths (get_or (standing m.order) p 0 - 1) 0 })
-  fits-at p l =
+  fits_at : (p : ℕ) → p < length m.order → PlaceFits m.tasks (take p (of_fixed m).places) (record { task = get_or (standing m.order) p 0; length = get_or m.lengths (get_or (standing m.order) p 0 - 1) 0 })
+  fits_at p l =
       let xs : List ℕ = standing m.order in
-      let named = standing-named (length m.tasks) m.order w.order p l in
+      let named = standing_named (length m.tasks) m.order w.order p l in
       let choice = w.choice (get_or xs p 0 - 1) (omega (arith, named.0, named.1)) in
-      let e : numbers (take p (of-fixed m).places) ≡ take p xs = numbers-take p (of-fixed m).places ∙ ap (take p) (numbers-placed xs m.lengths) in (
+      let e : numbers (take p (of_fixed m).places) ≡ take p xs = numbers_take p (of_fixed m).places ∙ ap (take p) (numbers_placed xs m.lengths) in (
         named,
-        ap (λ (ys : List ℕ). among ys (get_or xs p 0)) e ∙ fresh-apart xs (standing_apart (length m.tasks) m.order w.order) p (omega (arith, length-standing m.order)),
+        ap (λ (ys : List ℕ). among ys (get_or xs p 0)) e ∙ fresh_apart xs (standing_apart (length m.tasks) m.order w.order) p (omega (arith, length_standing m.order)),
         choice.0,
         choice.1,
       )
 
-  fixed-fits : EachFits m.tasks (of-fixed m).places
-  fixed-fits p l =
-      let k : p < length m.order = omega (arith, length-placed (standing m.order) m.lengths, length-standing m.order) in
-      subst (λ (x : Place). PlaceFits m.tasks (take p (of-fixed m).places) x) (sym (getD-placed (standing m.order) m.lengths p (omega (arith, length-standing m.order)))) (fits-at p k)
+  fixed_fits : EachFits m.tasks (of_fixed m).places
+  fixed_fits p l =
+      let k : p < length m.order = omega (arith, length_placed (standing m.order) m.lengths, length_standing m.order) in
+      subst (λ (x : Place). PlaceFits m.tasks (take p (of_fixed m).places) x) (sym (getD_placed (standing m.order) m.lengths p (omega (arith, length_standing m.order)))) (fits_at p k)
 
-  pub fixed-valid : Valid (of-fixed m)
-  fixed-valid = record { some = w.some; most = w.most; few = w.few; tasks = w.tasks; whole = (λ z. places_count); each = fixed-fits }
+  pub fixed_valid : Valid (of_fixed m)
+  fixed_valid = record { some = w.some; most = w.most; few = w.few; tasks = w.tasks; whole = (λ z. places_count); each = fixed_fits }
 
   -- what was read out
   pub room_for : (a b c : List ℕ) → length a ≡ 32 → length b ≡ 32 → length c ≡ 32 → Room m (lent a b c)
   room_for a b c x y z = (omega (arith, w.few), omega (arith, w.few), omega (arith, w.few))
 
-  pub read-filled : (r : Result Marks Refusal) (old new : Lent) → ReadsOut m r old new → Room m old
-      → (new.tasks ≡ over (standing m.order) old.tasks) × (new.lengths ≡ over (as-standing m.order m.lengths) old.lengths)
-  read-filled (Ok x) old new h room = (ap (λ l. l.tasks) h.3, ap (λ l. l.lengths) h.3)
-  read-filled (Err e) old new h room = absurd (h.1 room)
+  pub read_filled : (r : Result Marks Refusal) (old new : Lent) → ReadsOut m r old new → Room m old
+      → (new.tasks ≡ over (standing m.order) old.tasks) × (new.lengths ≡ over (as_standing m.order m.lengths) old.lengths)
+  read_filled (Ok x) old new h room = (ap (λ l. l.tasks) h.3, ap (λ l. l.lengths) h.3)
+  read_filled (Err e) old new h room = absurd (h.1 room)
 
-  pub read-places : (a b xs ys : List ℕ) (ps : List Place) → xs ≡ over (standing m.order) a → ys ≡ over (as-standing m.order m.lengths) b → length ps ≡ 32
-      → ((k : ℕ) → k < 32 → get_or ps k no_place ≡ paired xs ys k) → take (length m.tasks) ps ≡ (of-fixed m).places
-  read-places a b xs ys ps ex ey n h =
-      same_lists (take (length m.tasks) ps) (of-fixed m).places
+  pub read_places : (a b xs ys : List ℕ) (ps : List Place) → xs ≡ over (standing m.order) a → ys ≡ over (as_standing m.order m.lengths) b → length ps ≡ 32
+      → ((k : ℕ) → k < 32 → get_or ps k no_place ≡ paired xs ys k) → take (length m.tasks) ps ≡ (of_fixed m).places
+  read_places a b xs ys ps ex ey n h =
+      same_lists (take (length m.tasks) ps) (of_fixed m).places
       (length-take-le (length m.tasks) ps (omega (arith, w.few)) ∙ sym places_count)
       (λ k d l. at k d (omega (arith, length-take-le (length m.tasks) ps (omega (arith, w.few)))))
     where
-      at : (k : ℕ) (d : Place) → k < length m.tasks → get_or (take (length m.tasks) ps) k d ≡ get_or (of-fixed m).places k d
+      at : (k : ℕ) (d : Place) → k < length m.tasks → get_or (take (length m.tasks) ps) k d ≡ get_or (of_fixed m).places k d
       at k d l =
           let q : List ℕ = m.order in
           let o : length q ≡ length m.tasks = w.order.0 in
-          let s : length (standing q) ≡ length q = length-standing q in
+          let s : length (standing q) ≡ length q = length_standing q in
           let first : get_or xs k 0 ≡ get_or (standing q) k 0 = ap (λ l. get_or l k 0) ex ∙ get_or_append_left (standing q) (drop (length (standing q)) a) 0 k (omega arith) in
-          let c : length (as-standing q m.lengths) ≡ length q = length-map (reverse q) (λ j. get_or m.lengths j 0) ∙ length-reverse q in
+          let c : length (as_standing q m.lengths) ≡ length q = length-map (reverse q) (λ j. get_or m.lengths j 0) ∙ length-reverse q in
           let g : get_or (standing q) k 0 ≡ get_or (reverse q) k 0 + 1 = get_or-map (λ j. j + 1) (reverse q) k 0 0 (omega (arith, length-reverse q)) in
           let second : get_or ys k 0 ≡ get_or m.lengths (get_or (standing q) k 0 - 1) 0 =
           ap (λ l. get_or l k 0) ey
-          ∙ get_or_append_left (as-standing q m.lengths) (drop (length (as-standing q m.lengths)) b) 0 k (omega arith)
+          ∙ get_or_append_left (as_standing q m.lengths) (drop (length (as_standing q m.lengths)) b) 0 k (omega arith)
           ∙ get_or-map (λ j. get_or m.lengths j 0) (reverse q) k 0 0 (omega (arith, length-reverse q))
           ∙ ap (λ j. get_or m.lengths j 0) (omega arith) in
           get_or-take (length m.tasks) ps k d l
           ∙ get_or_default ps k d no_place (omega (arith, w.few))
           ∙ h k (omega (arith, w.few))
           ∙ (λ i. record { task = first i; length = second i })
-          ∙ sym (getD-placed (standing q) m.lengths k (omega arith))
-          ∙ get_or_default (of-fixed m).places k no_place d (omega (arith, places_count))
+          ∙ sym (getD_placed (standing q) m.lengths k (omega arith))
+          ∙ get_or_default (of_fixed m).places k no_place d (omega (arith, places_count))
 
 -- valid places can be written
 pub writable : (s : Stored) → Valid s → Writable s.places

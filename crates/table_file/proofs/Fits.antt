@@ -20,8 +20,8 @@ go_on ts before (p ∷ ps) h =
     (subst (λ (x : Place). PlaceFits ts (take (length before) (before ++ p ∷ ps)) x) (get_or_at before p ps no_place (length before) refl) here) in
     (fits, go_on ts (before ++ p ∷ []) ps (subst (λ (x : List Place). EachFits ts x) (sym (append_assoc before (p ∷ []) ps)) h))
 
-pub fits-push : (ts : List Task) (ps : List Place) (p : Place) → EachFits ts ps → PlaceFits ts ps p → EachFits ts (ps ++ p ∷ [])
-fits-push ts ps p h f k l =
+pub fits_push : (ts : List Task) (ps : List Place) (p : Place) → EachFits ts ps → PlaceFits ts ps p → EachFits ts (ps ++ p ∷ [])
+fits_push ts ps p h f k l =
     ⊎_elim
     (λ less. subst (λ (x : List Place). PlaceFits ts x (get_or (ps ++ p ∷ []) k no_place)) (sym (take-append-le k ps (p ∷ []) (omega arith)))
     (subst (λ (x : Place). PlaceFits ts (take k ps) x) (sym (get_or_append_left ps (p ∷ []) no_place k less)) (h k less)))

@@ -16,8 +16,8 @@ module _ (ps : List Place) (n i : ℕ) (d : Place) (inv : named n (drop i ps) �
   pub named_here : (get_or ps i d).task ≡ n → true ≡ named n ps
   named_here e = sym (here ∙ cond-true (eqb (get_or ps i d).task n) true (named n (drop (i + 1) ps)) (eq-eqb (get_or ps i d).task n e)) ∙ inv
 
-  pub named-on : ((get_or ps i d).task ≡ n → ⊥) → named n (drop (i + 1) ps) ≡ named n ps
-  named-on e = sym (here ∙ cond-false (eqb (get_or ps i d).task n) true (named n (drop (i + 1) ps)) (ne_eqb (get_or ps i d).task n e)) ∙ inv
+  pub named_on : ((get_or ps i d).task ≡ n → ⊥) → named n (drop (i + 1) ps) ≡ named n ps
+  named_on e = sym (here ∙ cond-false (eqb (get_or ps i d).task n) true (named n (drop (i + 1) ps)) (ne_eqb (get_or ps i d).task n e)) ∙ inv
 
 pub named_end : (ps : List Place) (n i : ℕ) → named n (drop i ps) ≡ named n ps → length ps ≤ i → false ≡ named n ps
 named_end ps n i inv h = sym (at_drop_all (named n) ps i h) ∙ inv

@@ -13,26 +13,26 @@ module _ (ds : List ℕ) (ln k : ℕ) (is : k ≡ 16 * value (get_or ds 0 0) + v
   same : parts ds ≡ drop 2 ds
   same = take_rest ds 2
 
-  kind-is : (j : ℕ) → k ≡ j → eqb (byte_at ds 0) j ≡ true
-  kind-is j e = eq-eqb (byte_at ds 0) j (sym is ∙ e)
+  kind_is : (j : ℕ) → k ≡ j → eqb (byte_at ds 0) j ≡ true
+  kind_is j e = eq-eqb (byte_at ds 0) j (sym is ∙ e)
 
-  kind-not : (j : ℕ) → (k ≡ j → ⊥) → eqb (byte_at ds 0) j ≡ false
-  kind-not j e = ne_eqb (byte_at ds 0) j (λ q. e (is ∙ q))
+  kind_not : (j : ℕ) → (k ≡ j → ⊥) → eqb (byte_at ds 0) j ≡ false
+  kind_not j e = ne_eqb (byte_at ds 0) j (λ q. e (is ∙ q))
 
   size_is : (n : ℕ) → length (parts ds) ≡ n → eqb (length (drop 2 ds)) n ≡ true
   size_is n e = eq-eqb _ _ (sym (ap length same) ∙ e)
 
-  pub is-cores : k ≡ 1 → length (parts ds) ≡ 2 → Ok (cores (parts ds) ln) ≡ form_of ds ln
-  is-cores e n = ap (λ l. Ok (cores l ln)) same ∙ sym (cond-true _ _ _ (kind-is 1 e) ∙ cond-true _ _ _ (size_is 2 n))
+  pub is_cores : k ≡ 1 → length (parts ds) ≡ 2 → Ok (cores (parts ds) ln) ≡ form_of ds ln
+  is_cores e n = ap (λ l. Ok (cores l ln)) same ∙ sym (cond-true _ _ _ (kind_is 1 e) ∙ cond-true _ _ _ (size_is 2 n))
 
-  pub is-task : k ≡ 2 → length (parts ds) ≡ 12 → Ok (task (parts ds) ln) ≡ form_of ds ln
-  is-task e n = ap (λ l. Ok (task l ln)) same ∙ sym (cond-false _ _ _ (kind-not 1 (λ z. omega arith)) ∙ cond-true _ _ _ (kind-is 2 e) ∙ cond-true _ _ _ (size_is 12 n))
+  pub is_task : k ≡ 2 → length (parts ds) ≡ 12 → Ok (task (parts ds) ln) ≡ form_of ds ln
+  is_task e n = ap (λ l. Ok (task l ln)) same ∙ sym (cond-false _ _ _ (kind_not 1 (λ z. omega arith)) ∙ cond-true _ _ _ (kind_is 2 e) ∙ cond-true _ _ _ (size_is 12 n))
 
-  pub is-place : k ≡ 3 → length (parts ds) ≡ 6 → Ok (place (parts ds) ln) ≡ form_of ds ln
-  is-place e n = ap (λ l. Ok (place l ln)) same ∙ sym (cond-false _ _ _ (kind-not 1 (λ z. omega arith)) ∙ cond-false _ _ _ (kind-not 2 (λ z. omega arith)) ∙ cond-true _ _ _ (kind-is 3 e) ∙ cond-true _ _ _ (size_is 6 n))
+  pub is_place : k ≡ 3 → length (parts ds) ≡ 6 → Ok (place (parts ds) ln) ≡ form_of ds ln
+  is_place e n = ap (λ l. Ok (place l ln)) same ∙ sym (cond-false _ _ _ (kind_not 1 (λ z. omega arith)) ∙ cond-false _ _ _ (kind_not 2 (λ z. omega arith)) ∙ cond-true _ _ _ (kind_is 3 e) ∙ cond-true _ _ _ (size_is 6 n))
 
-pub parts-hex : (ds : List ℕ) → AllDigits ds → AllDigits (parts ds)
-parts-hex ds h i l =
+pub parts_hex : (ds : List ℕ) → AllDigits ds → AllDigits (parts ds)
+parts_hex ds h i l =
     let e = take_rest ds 2 in
     let n : i < length ds - 2 = omega (arith, ap length e, length-drop 2 ds) in
     subst (λ xs. is_digit (get_or xs i 0) ≡ true) (sym e) (ap is_digit (get_or-drop 2 ds i 0) ∙ h (2 + i) (omega arith))

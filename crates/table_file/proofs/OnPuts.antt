@@ -19,9 +19,9 @@ module _ (ys zs old : List ℕ) (at : ℕ) (h : at + length ys ≤ length old) w
   unfolding front
   regroup = sym (append_assoc (take at old) ys (drop (at + length ys) old))
 
-  pub put-put : put zs (at + length ys) (put ys at old) ≡ put (ys ++ zs) at old
+  pub put_put : put zs (at + length ys) (put ys at old) ≡ put (ys ++ zs) at old
   unfolding front
-  put-put =
+  put_put =
       let n : ℕ = at + length ys in
       let t : take n (put ys at old) ≡ front = ap (take n) regroup ∙ take_at front (drop n old) n front_length in
       let d : drop (n + length zs) (put ys at old) ≡ drop (at + length (ys ++ zs)) old =
@@ -33,8 +33,8 @@ module _ (ys zs old : List ℕ) (at : ℕ) (h : at + length ys ≤ length old) w
       ∙ append_assoc (take at old) ys (zs ++ drop (at + length (ys ++ zs)) old)
       ∙ ap (λ l. take at old ++ l) (sym (append_assoc ys zs (drop (at + length (ys ++ zs)) old)))
 
-pub put-start : (ys old : List ℕ) → put ys 0 old ≡ over ys old
-put-start ys old = ap (λ n. ys ++ drop n old) (zero-add (length ys))
+pub put_start : (ys old : List ℕ) → put ys 0 old ≡ over ys old
+put_start ys old = ap (λ n. ys ++ drop n old) (zero-add (length ys))
 
 pub put_then : (ys zs old mid last : List ℕ) (at next : ℕ) → at + length ys ≤ length old → mid ≡ put ys at old → next ≡ at + length ys → last ≡ put zs next mid → last ≡ put (ys ++ zs) at old
-put_then ys zs old mid last at next h m n l = l ∙ (λ i. put zs (n i) (m i)) ∙ put-put ys zs old at h
+put_then ys zs old mid last at next h m n l = l ∙ (λ i. put zs (n i) (m i)) ∙ put_put ys zs old at h

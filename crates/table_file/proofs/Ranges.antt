@@ -3,20 +3,20 @@ use Rattle.std.proofs.Common.{◌≡◌, ℕ, zero, suc, ◌-◌, ◌<◌, ◌�
 use Rattle.std.proofs.lemmas.List.{length-map, get_or-map}
 use Rattle.std.proofs.lemmas.Bool.{eqb-true, eqb-false, ltb-true, ltb-false, leb-false, and_cases, or_cases, or_parts}
 use Rattle.analysis.specs.Rivals.{among}
-use Rattle.analysis.proofs.Among.{among_none, among-place}
+use Rattle.analysis.proofs.Among.{among_none, among_place}
 use Rattle.planner.specs.Calls.{CoresWithinLimits}
 use Rattle.table_file.specs.declared.place.Place.{Place}
 use Rattle.table_file.specs.Stored.{numbers, no_place}
 
 -- a task that has a place
-pub named-place : (ps : List Place) (n : ℕ) → among (numbers ps) n ≡ true → (p : ℕ) × (p < length ps) × ((get_or ps p no_place).task ≡ n)
-named-place ps n e =
-    let w = among-place (numbers ps) n e in
+pub named_place : (ps : List Place) (n : ℕ) → among (numbers ps) n ≡ true → (p : ℕ) × (p < length ps) × ((get_or ps p no_place).task ≡ n)
+named_place ps n e =
+    let w = among_place (numbers ps) n e in
     let l : w.0 < length ps = omega (arith, w.1, length-map ps (λ p. p.task)) in
     (w.0, l, sym (get_or-map (λ p. p.task) ps w.0 no_place 0 l) ∙ w.2)
 
-pub named-nowhere : (ps : List Place) (n : ℕ) → among (numbers ps) n ≡ false → (p : ℕ) × (p < length ps) × ((get_or ps p no_place).task ≡ n) → ⊥
-named-nowhere ps n e w =
+pub named_nowhere : (ps : List Place) (n : ℕ) → among (numbers ps) n ≡ false → (p : ℕ) × (p < length ps) × ((get_or ps p no_place).task ≡ n) → ⊥
+named_nowhere ps n e w =
     among_none (numbers ps) n e w.0 (omega (arith, w.1, length-map ps (λ p. p.task))) (get_or-map (λ p. p.task) ps w.0 no_place 0 w.1 ∙ w.2)
 
 some_more : (n : ℕ) → (n ≡ 0 → ⊥) → 1 ≤ n

@@ -9,23 +9,23 @@ at_turn n =
     cond (eqb n 1) Digit (cond (eqb n 2) Line (cond (eqb n 3) Kind (cond (eqb n 4) Size (cond (eqb n 5) NotDue
     (cond (eqb n 6) CoreCount (cond (eqb n 7) TableFull (cond (eqb n 8) Limits (cond (eqb n 9) NoSuchTask (cond (eqb n 10) NamedAgain (cond (eqb n 11) Length TooLong))))))))))
 
-at-its-turn : (k : Number) → at_turn (turn k) ≡ k
+at_its_turn : (k : Number) → at_turn (turn k) ≡ k
 unfolding at_turn
-at-its-turn TooLong = refl
-at-its-turn Digit = refl
-at-its-turn Line = refl
-at-its-turn Kind = refl
-at-its-turn Size = refl
-at-its-turn NotDue = refl
-at-its-turn CoreCount = refl
-at-its-turn TableFull = refl
-at-its-turn Limits = refl
-at-its-turn NoSuchTask = refl
-at-its-turn NamedAgain = refl
-at-its-turn Length = refl
+at_its_turn TooLong = refl
+at_its_turn Digit = refl
+at_its_turn Line = refl
+at_its_turn Kind = refl
+at_its_turn Size = refl
+at_its_turn NotDue = refl
+at_its_turn CoreCount = refl
+at_its_turn TableFull = refl
+at_its_turn Limits = refl
+at_its_turn NoSuchTask = refl
+at_its_turn NamedAgain = refl
+at_its_turn Length = refl
 
 pub same_turn : (k m : Number) → turn k ≡ turn m → k ≡ m
-same_turn k m e = sym (at-its-turn k) ∙ ap at_turn e ∙ at-its-turn m
+same_turn k m e = sym (at_its_turn k) ∙ ap at_turn e ∙ at_its_turn m
 
 pub turns : (k : Number) → turn k < 12
 turns TooLong = omega arith

@@ -6,12 +6,12 @@ use Rattle.analysis.specs.declared.task.Task.{Task}
 use Rattle.planner.specs.Reading.{over}
 use Rattle.table_file.specs.declared.place.Place.{Place}
 use Rattle.table_file.specs.Stored.{Stored, stored, Valid}
-use Rattle.table_file.specs.FileText.{cores-line, task-line, place-line, file-text}
+use Rattle.table_file.specs.FileText.{cores_line, task_line, place_line, file_text}
 use Rattle.table_file.specs.Puts.{put}
 use Rattle.table_file.specs.Promises.{Written}
-use Rattle.table_file.specs.Reading.{read-file}
-use Rattle.table_file.proofs.Back.{reads-back}
-use Rattle.table_file.proofs.OnPuts.{put_then, put-start}
+use Rattle.table_file.specs.Reading.{read_file}
+use Rattle.table_file.proofs.Back.{reads_back}
+use Rattle.table_file.proofs.OnPuts.{put_then, put_start}
 
 module _ {X : Type 0} (f : X → List ℕ) (xs : List X) (old : List ℕ) (start : ℕ) where
   pub lines_none : old ≡ put (flat_map f (take 0 xs)) start old
@@ -24,26 +24,26 @@ module _ {X : Type 0} (f : X → List ℕ) (xs : List X) (old : List ℕ) (start
       ∙ ap (λ x. put x start old) (flat_map_more f [] (take i xs) (get_or xs i d) ∙ ap (flat_map f) (sym (take_more xs i d l)))
 
 -- the promise of a text that was written
-pub written : (s : Stored) → Valid s → (n : ℕ) (old new : List ℕ) → length (file-text s) ≤ length old → n ≡ length (file-text s) → new ≡ put (file-text s) 0 old → Written s n old new
+pub written : (s : Stored) → Valid s → (n : ℕ) (old new : List ℕ) → length (file_text s) ≤ length old → n ≡ length (file_text s) → new ≡ put (file_text s) 0 old → Written s n old new
 written s v n old new room count e =
-    let text : new ≡ over (file-text s) old = e ∙ put-start (file-text s) old in
+    let text : new ≡ over (file_text s) old = e ∙ put_start (file_text s) old in
     record {
       room = room;
       count = count;
       text = text;
-      back = ap read-file (ap (take n) text ∙ take_at (file-text s) (drop (length (file-text s)) old) n (sym count)) ∙ reads-back s v;
+      back = ap read_file (ap (take n) text ∙ take_at (file_text s) (drop (length (file_text s)) old) n (sym count)) ∙ reads_back s v;
     }
 
 -- cores, tasks and places one after the other
-module _ (m : ℕ) (ts : List Task) (old one two : List ℕ) (at : ℕ) (is : at ≡ 5) (first : one ≡ put (cores-line m) 0 old) (second : two ≡ put (flat_map task-line ts) at one) (room : 5 ≤ length old) where
-  pub two-parts : two ≡ put (cores-line m ++ flat_map task-line ts) 0 old
-  two-parts = put_then (cores-line m) (flat_map task-line ts) old one two 0 at (omega arith) first (omega arith) second
+module _ (m : ℕ) (ts : List Task) (old one two : List ℕ) (at : ℕ) (is : at ≡ 5) (first : one ≡ put (cores_line m) 0 old) (second : two ≡ put (flat_map task_line ts) at one) (room : 5 ≤ length old) where
+  pub two_parts : two ≡ put (cores_line m ++ flat_map task_line ts) 0 old
+  two_parts = put_then (cores_line m) (flat_map task_line ts) old one two 0 at (omega arith) first (omega arith) second
 
-  pub without-places : two ≡ put (file-text (stored m ts [])) 0 old
-  without-places = two-parts ∙ ap (λ l. put (cores-line m ++ l) 0 old) (sym (append-nil (flat_map task-line ts)))
+  pub without_places : two ≡ put (file_text (stored m ts [])) 0 old
+  without_places = two_parts ∙ ap (λ l. put (cores_line m ++ l) 0 old) (sym (append-nil (flat_map task_line ts)))
 
-  pub with-places : (ps : List Place) (next : ℕ) (three : List ℕ) → length (flat_map task-line ts) + 5 ≤ length old → next ≡ 5 + length (flat_map task-line ts)
-      → three ≡ put (flat_map place-line ps) next two → three ≡ put (file-text (stored m ts ps)) 0 old
-  with-places ps next three more n third =
-      let k : length (cores-line m ++ flat_map task-line ts) ≡ 5 + length (flat_map task-line ts) = omega arith in
-      put_then (cores-line m ++ flat_map task-line ts) (flat_map place-line ps) old two three 0 next (omega arith) two-parts (omega arith) third
+  pub with_places : (ps : List Place) (next : ℕ) (three : List ℕ) → length (flat_map task_line ts) + 5 ≤ length old → next ≡ 5 + length (flat_map task_line ts)
+      → three ≡ put (flat_map place_line ps) next two → three ≡ put (file_text (stored m ts ps)) 0 old
+  with_places ps next three more n third =
+      let k : length (cores_line m ++ flat_map task_line ts) ≡ 5 + length (flat_map task_line ts) = omega arith in
+      put_then (cores_line m ++ flat_map task_line ts) (flat_map place_line ps) old two three 0 next (omega arith) two_parts (omega arith) third

@@ -18,11 +18,11 @@ byte_at ds i = 16 * value (slice_index ds i) + value (slice_index ds (i + 1))
 abbrev pub word_at : List ℕ → ℕ → ℕ
 word_at ds i = 256 * byte_at ds i + byte_at ds (i + 2)
 
-abbrev pub digit-text : ℕ → ℕ
-digit-text n = cond (nat_lt n 10) (48 + n) (55 + n)
+abbrev pub digit_text : ℕ → ℕ
+digit_text n = cond (nat_lt n 10) (48 + n) (55 + n)
 
-abbrev pub byte-text : ℕ → List ℕ
-byte-text b = digit-text (b / 16) ∷ digit-text (b % 16) ∷ []
+abbrev pub byte_text : ℕ → List ℕ
+byte_text b = digit_text (b / 16) ∷ digit_text (b % 16) ∷ []
 
-abbrev pub word-text : ℕ → List ℕ
-word-text w = byte-text (w / 256) ++ byte-text (w % 256)
+abbrev pub word_text : ℕ → List ℕ
+word_text w = byte_text (w / 256) ++ byte_text (w % 256)

@@ -6,7 +6,7 @@ use Rattle.table_file.specs.declared.fault.Fault.{Fault}
 use Rattle.table_file.specs.declared.place.Place.{Place}
 use Rattle.table_file.specs.declared.frames.Frame.{Frame}
 use Rattle.table_file.specs.declared.frames.Frame.TheVariants as variant
-use Rattle.table_file.specs.Numbers.{fault-at}
+use Rattle.table_file.specs.Numbers.{fault_at}
 use Rattle.table_file.specs.Digits.{byte_at, word_at, AllDigits}
 
 -- a frame by its kind, with the digits of its fields and its line
@@ -21,28 +21,28 @@ meaning (variant.Task d l) = task d.now l
 meaning (variant.Place d l) = place d.now l
 
 -- the kind byte of each frame
-abbrev pub kind-of : Frame → ℕ
-kind-of (variant.Cores d l) = 1
-kind-of (variant.Task d l) = 2
-kind-of (variant.Place d l) = 3
+abbrev pub kind_of : Frame → ℕ
+kind_of (variant.Cores d l) = 1
+kind_of (variant.Task d l) = 2
+kind_of (variant.Place d l) = 3
 
 -- the digits of the fields, two for each byte
 abbrev pub fields : List ℕ → List ℕ
 fields ds = drop 2 ds
 
 abbrev sized : ℕ → List ℕ → ℕ → Form → Result Form Fault
-sized n ds ln form = cond (length (fields ds) == 2 * n) (Ok form) (Err (fault-at Size ln 1))
+sized n ds ln form = cond (length (fields ds) == 2 * n) (Ok form) (Err (fault_at Size ln 1))
 
 abbrev pub form_of : List ℕ → ℕ → Result Form Fault
 form_of ds ln =
     cond (byte_at ds 0 == 1) (sized 1 ds ln (cores (fields ds) ln))
     (cond (byte_at ds 0 == 2) (sized 6 ds ln (task (fields ds) ln))
     (cond (byte_at ds 0 == 3) (sized 3 ds ln (place (fields ds) ln))
-    (Err (fault-at Kind ln 1))))
+    (Err (fault_at Kind ln 1))))
 
 -- what the fields say
-abbrev pub task-of : List ℕ → Task
-task-of ds = record { cost = word_at ds 0; deadline = word_at ds 4; period = word_at ds 8 }
+abbrev pub task_of : List ℕ → Task
+task_of ds = record { cost = word_at ds 0; deadline = word_at ds 4; period = word_at ds 8 }
 
 abbrev pub place_of : List ℕ → Place
 place_of ds = record { task = byte_at ds 0; length = word_at ds 2 }
@@ -54,6 +54,6 @@ Made (task ds ln) = (length ds ≡ 12) × AllDigits ds
 Made (place ds ln) = (length ds ≡ 6) × AllDigits ds
 
 -- the code's answer by what it means
-abbrev pub seen-frame : Result Frame Fault → Result Form Fault
-seen-frame (Ok f) = Ok (meaning f)
-seen-frame (Err f) = Err f
+abbrev pub seen_frame : Result Frame Fault → Result Form Fault
+seen_frame (Ok f) = Ok (meaning f)
+seen_frame (Err f) = Err f

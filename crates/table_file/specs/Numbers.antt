@@ -19,20 +19,20 @@ number_of NotDue = 16
 number_of TooLong = 17
 
 -- 1: lines of digits; 2: frames; 3: the table
-abbrev pub layer-of : Number → ℕ
-layer-of CoreCount = 3
-layer-of TableFull = 3
-layer-of Limits = 3
-layer-of NoSuchTask = 3
-layer-of NamedAgain = 3
-layer-of Length = 3
-layer-of Digit = 1
-layer-of Line = 1
-layer-of Kind = 2
-layer-of Size = 2
-layer-of NotDue = 2
-layer-of TooLong = 1
+abbrev pub layer_of : Number → ℕ
+layer_of CoreCount = 3
+layer_of TableFull = 3
+layer_of Limits = 3
+layer_of NoSuchTask = 3
+layer_of NamedAgain = 3
+layer_of Length = 3
+layer_of Digit = 1
+layer_of Line = 1
+layer_of Kind = 2
+layer_of Size = 2
+layer_of NotDue = 2
+layer_of TooLong = 1
 
 -- a fault at a line and a column, both counted from 1
-abbrev pub fault-at : Number → ℕ → ℕ → Fault
-fault-at n l c = record { number = n; layer = layer-of n; line = l; column = c }
+abbrev pub fault_at : Number → ℕ → ℕ → Fault
+fault_at n l c = record { number = n; layer = layer_of n; line = l; column = c }

@@ -2,16 +2,16 @@
 use Rattle.std.specs.Prelude.{◌≡◌, ℕ, ◌≤◌, Bool, cond, ◌&&◌, ◌||◌, List, [], ◌∷◌, ◌++◌, length, take, Ok, Err, Result, ◌==◌, nat_le, nat_lt}
 use Rattle.analysis.specs.declared.task.Task.{Task}
 use Rattle.analysis.specs.Rivals.{among}
-use Rattle.planner.specs.Calls.{task-numbered}
+use Rattle.planner.specs.Calls.{task_numbered}
 use Rattle.table_file.specs.declared.fault.Number.TheVariants.{CoreCount, TableFull, Limits, NoSuchTask, NamedAgain, Length, NotDue}
 use Rattle.table_file.specs.declared.fault.Fault.{Fault}
 use Rattle.table_file.specs.declared.place.Place.{Place}
 use Rattle.table_file.specs.declared.reader.Phase.{Phase}
 use Rattle.table_file.specs.declared.reader.Phase.TheVariants.{Start, Tasks, Places}
 use Rattle.table_file.specs.declared.reader.Reader.{Reader}
-use Rattle.table_file.specs.Numbers.{fault-at}
+use Rattle.table_file.specs.Numbers.{fault_at}
 use Rattle.table_file.specs.Digits.{byte_at}
-use Rattle.table_file.specs.Frames.{Form, cores, task, place, task-of, place_of}
+use Rattle.table_file.specs.Frames.{Form, cores, task, place, task_of, place_of}
 use Rattle.table_file.specs.Stored.{Stored, stored, numbers}
 
 pub record Progress : Type 0 where
@@ -32,46 +32,46 @@ bind (Ok x) f = f x
 bind (Err e) f = Err e
 
 -- 1 ≤ cost ≤ deadline ≤ period ≤ 65,535
-abbrev pub within-limits : Task → Bool
-within-limits t = nat_le 1 t.cost && (nat_le t.cost t.deadline && (nat_le t.deadline t.period && nat_le t.period 65535))
+abbrev pub within_limits : Task → Bool
+within_limits t = nat_le 1 t.cost && (nat_le t.cost t.deadline && (nat_le t.deadline t.period && nat_le t.period 65535))
 
 module _ (s : Progress) where
-  abbrev pub step-cores : List ℕ → ℕ → Result Progress Fault
-  step-cores ds ln =
+  abbrev pub step_cores : List ℕ → ℕ → Result Progress Fault
+  step_cores ds ln =
       cond (nat_le 1 (byte_at ds 0) && nat_le (byte_at ds 0) 16)
       (Ok (so_far Tasks (byte_at ds 0) s.tasks s.places))
-      (Err (fault-at CoreCount ln 1))
+      (Err (fault_at CoreCount ln 1))
 
-  abbrev pub step-task : List ℕ → ℕ → Result Progress Fault
-  step-task ds ln =
-      cond (nat_le 32 (length s.tasks)) (Err (fault-at TableFull ln 1))
-      (cond (within-limits (task-of ds))
-      (Ok (so_far Tasks s.cores (s.tasks ++ task-of ds ∷ []) s.places))
-      (Err (fault-at Limits ln 1)))
+  abbrev pub step_task : List ℕ → ℕ → Result Progress Fault
+  step_task ds ln =
+      cond (nat_le 32 (length s.tasks)) (Err (fault_at TableFull ln 1))
+      (cond (within_limits (task_of ds))
+      (Ok (so_far Tasks s.cores (s.tasks ++ task_of ds ∷ []) s.places))
+      (Err (fault_at Limits ln 1)))
 
-  abbrev pub check-place : Place → ℕ → Result (Unit {0}) Fault
-  check-place p ln =
-      cond (p.task == 0 || nat_lt (length s.tasks) p.task) (Err (fault-at NoSuchTask ln 1))
-      (cond (among (numbers s.places) p.task) (Err (fault-at NamedAgain ln 1))
-      (cond (p.length == 0 || nat_lt (task-numbered s.tasks p.task).cost p.length) (Err (fault-at Length ln 1)) (Ok tt)))
+  abbrev pub check_place : Place → ℕ → Result (Unit {0}) Fault
+  check_place p ln =
+      cond (p.task == 0 || nat_lt (length s.tasks) p.task) (Err (fault_at NoSuchTask ln 1))
+      (cond (among (numbers s.places) p.task) (Err (fault_at NamedAgain ln 1))
+      (cond (p.length == 0 || nat_lt (task_numbered s.tasks p.task).cost p.length) (Err (fault_at Length ln 1)) (Ok tt)))
 
-  abbrev pub step-place : List ℕ → ℕ → Result Progress Fault
-  step-place ds ln =
-      cond (nat_le (length s.tasks) (length s.places)) (Err (fault-at NotDue ln 1))
-      (bind (check-place (place_of ds) ln) (λ _. Ok (so_far Places s.cores s.tasks (s.places ++ place_of ds ∷ []))))
+  abbrev pub step_place : List ℕ → ℕ → Result Progress Fault
+  step_place ds ln =
+      cond (nat_le (length s.tasks) (length s.places)) (Err (fault_at NotDue ln 1))
+      (bind (check_place (place_of ds) ln) (λ _. Ok (so_far Places s.cores s.tasks (s.places ++ place_of ds ∷ []))))
 
   -- one frame more, by the phase and the frame's kind
   abbrev pub step : Form → Result Progress Fault
-  step (cores ds ln) = elim s.phase [ Start ↦ step-cores ds ln | Tasks ↦ Err (fault-at NotDue ln 1) | Places ↦ Err (fault-at NotDue ln 1) ]
-  step (task ds ln) = elim s.phase [ Start ↦ Err (fault-at NotDue ln 1) | Tasks ↦ step-task ds ln | Places ↦ Err (fault-at NotDue ln 1) ]
-  step (place ds ln) = elim s.phase [ Start ↦ Err (fault-at NotDue ln 1) | Tasks ↦ step-place ds ln | Places ↦ step-place ds ln ]
+  step (cores ds ln) = elim s.phase [ Start ↦ step_cores ds ln | Tasks ↦ Err (fault_at NotDue ln 1) | Places ↦ Err (fault_at NotDue ln 1) ]
+  step (task ds ln) = elim s.phase [ Start ↦ Err (fault_at NotDue ln 1) | Tasks ↦ step_task ds ln | Places ↦ Err (fault_at NotDue ln 1) ]
+  step (place ds ln) = elim s.phase [ Start ↦ Err (fault_at NotDue ln 1) | Tasks ↦ step_place ds ln | Places ↦ step_place ds ln ]
 
   -- at the end of the file: nothing is missing
   abbrev pub finish : ℕ → Result (Unit {0}) Fault
   finish ln = elim s.phase [
-    | Start ↦ Err (fault-at NotDue ln 1)
+    | Start ↦ Err (fault_at NotDue ln 1)
     | Tasks ↦ Ok tt
-    | Places ↦ cond (nat_lt (length s.places) (length s.tasks)) (Err (fault-at NotDue ln 1)) (Ok tt)
+    | Places ↦ cond (nat_lt (length s.places) (length s.tasks)) (Err (fault_at NotDue ln 1)) (Ok tt)
   ]
 
   abbrev pub carried : Stored

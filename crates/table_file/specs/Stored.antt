@@ -3,7 +3,7 @@ use Rattle.std.specs.Prelude.{◌≡◌, ℕ, ◌-◌, ◌<◌, ◌≤◌, false
 use Rattle.analysis.specs.declared.task.Task.{Task}
 use Rattle.analysis.specs.Rivals.{among, TasksWithinLimits}
 use Rattle.planner.specs.Tables.{Open, Fixed}
-use Rattle.planner.specs.Calls.{HasTask, task-numbered}
+use Rattle.planner.specs.Calls.{HasTask, task_numbered}
 use Rattle.planner.specs.Reading.{standing}
 use Rattle.table_file.specs.declared.place.Place.{Place}
 
@@ -26,15 +26,15 @@ numbers ps = map (λ p. p.task) ps
 abbrev pub placed : List ℕ → List ℕ → List Place
 placed xs lens = map (λ n. record { task = n; length = slice_index lens (n - 1) }) xs
 
-abbrev pub of-open : Open → Stored
-of-open m = stored m.cores m.tasks []
+abbrev pub of_open : Open → Stored
+of_open m = stored m.cores m.tasks []
 
-abbrev pub of-fixed : Fixed → Stored
-of-fixed m = stored m.cores m.tasks (placed (standing m.order) m.lengths)
+abbrev pub of_fixed : Fixed → Stored
+of_fixed m = stored m.cores m.tasks (placed (standing m.order) m.lengths)
 
 -- a place for a task that has none among those before, with a length from 1 to its cost
 abbrev pub PlaceFits : List Task → List Place → Place → Type 0
-PlaceFits ts before p = HasTask ts p.task × (among (numbers before) p.task ≡ false) × (1 ≤ p.length) × (p.length ≤ (task-numbered ts p.task).cost)
+PlaceFits ts before p = HasTask ts p.task × (among (numbers before) p.task ≡ false) × (1 ≤ p.length) × (p.length ≤ (task_numbered ts p.task).cost)
 
 abbrev pub EachFits : List Task → List Place → Type 0
 EachFits ts ps = (p : ℕ) → p < length ps → PlaceFits ts (take p ps) (slice_index_or ps p no_place)

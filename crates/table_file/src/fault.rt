@@ -1,5 +1,5 @@
 ghost use Rattle.std.specs.Prelude.{◌≡◌};
-ghost use Rattle.table_file.specs.Numbers.{number_of, layer-of, fault-at};
+ghost use Rattle.table_file.specs.Numbers.{number_of, layer_of, fault_at};
 
 // Why a file was refused.
 #[derive(Clone, Copy, PartialEq, Eq, Debug)]
@@ -40,7 +40,7 @@ impl Number {
 
     // 1: lines of digits, 2: frames, 3: the table
     pub fn layer(self) -> u8
-        ensures { result ≡ layer-of self }
+        ensures { result ≡ layer_of self }
     {
         match self {
             Number::Digit | Number::Line | Number::TooLong => 1,
@@ -62,7 +62,7 @@ pub struct Fault {
 impl Fault {
     // A fault of a certain byte.
     pub(crate) fn at(number: Number, line: u16, column: u16) -> Fault
-        ensures { result ≡ fault-at number line column }
+        ensures { result ≡ fault_at number line column }
     {
         Fault {
             number,
@@ -74,7 +74,7 @@ impl Fault {
 
     // A fault of a whole line.
     pub(crate) fn of_line(number: Number, line: u16) -> Fault
-        ensures { result ≡ fault-at number line 1 }
+        ensures { result ≡ fault_at number line 1 }
     {
         Fault::at(number, line, 1)
     }

@@ -1,6 +1,6 @@
 ghost use Rattle.std.specs.Prelude.{◌≡◌, ◌+◌, ◌*◌, ◌≤◌, length, IfOk};
 ghost use Rattle.table_file.specs.Digits.{AllDigits, byte_at};
-ghost use Rattle.table_file.specs.Frames.{meaning, kind-of, form_of, seen-frame, task-of, place_of, Made};
+ghost use Rattle.table_file.specs.Frames.{meaning, kind_of, form_of, seen_frame, task_of, place_of, Made};
 
 use crate::digits::byte_of;
 use crate::fault::{Fault, Number};
@@ -32,8 +32,8 @@ pub(crate) enum Frame<'a> {
 pub(crate) fn frame_of<'a>(s: Stretch<'a>) -> Result<Frame<'a>, Fault>
     requires hex { AllDigits s.digits.now }
     requires some { 2 ≤ length s.digits.now }
-    ensures answer { seen-frame result ≡ form_of s.entry.digits.now s.entry.line }
-    ensures made { IfOk result (λ f. Made (meaning f) × (byte_at s.entry.digits.now 0 ≡ kind-of f)) }
+    ensures answer { seen_frame result ≡ form_of s.entry.digits.now s.entry.line }
+    ensures made { IfOk result (λ f. Made (meaning f) × (byte_at s.entry.digits.now 0 ≡ kind_of f)) }
 {
     let line = s.line;
     let [high, low, digits @ ..] = s.digits else {
@@ -65,7 +65,7 @@ pub(crate) fn cores_in(digits: &[u8]) -> u8
 pub(crate) fn task_in(digits: &[u8]) -> Task
     requires length { length digits.now ≡ 12 }
     requires hex { AllDigits digits.now }
-    ensures { result ≡ task-of digits.now }
+    ensures { result ≡ task_of digits.now }
 {
     match digits {
         [c3, c2, c1, c0, d3, d2, d1, d0, t3, t2, t1, t0] => Task {

@@ -1,6 +1,6 @@
 ghost use Rattle.std.specs.Prelude.{◌≡◌, ◌+◌, ◌<◌, ◌≤◌, length, IfOk, MatchResult};
 ghost use Rattle.table_file.specs.Digits.{AllDigits};
-ghost use Rattle.table_file.specs.Lines.{wrong-at, line-length, head-line, after_line, check-line, seen-line};
+ghost use Rattle.table_file.specs.Lines.{wrong_at, line_length, head_line, after_line, check_line, seen_line};
 
 use crate::digits::is_hex;
 use crate::fault::{Fault, Number};
@@ -24,7 +24,7 @@ impl<'a> Lines<'a> {
     pub(crate) fn take(&mut self) -> Result<Stretch<'a>, Fault>
         requires few { self.old.line < 65535 }
         requires short { length self.old.rest.now ≤ 65535 }
-        ensures answer { seen-line result ≡ check-line (head-line self.old.rest.now) self.old.line }
+        ensures answer { seen_line result ≡ check_line (head_line self.old.rest.now) self.old.line }
         ensures after { MatchResult result (λ s. (s.line ≡ self.old.line) × (self.new.line ≡ self.old.line + 1) × (self.new.rest.now ≡ after_line self.old.rest.now)) (λ _. self.new ≡ self.old) }
         ensures digits { IfOk result (λ s. AllDigits s.digits.now × (2 ≤ length s.digits.now) × (length self.new.rest.now + 3 ≤ length self.old.rest.now)) }
     {
@@ -55,7 +55,7 @@ fn column_of(index: usize) -> u16
 
 // The index of the first line feed, or the length.
 fn line_len(bytes: &[u8]) -> usize
-    ensures value { result ≡ line-length bytes.now }
+    ensures value { result ≡ line_length bytes.now }
     ensures bound { result ≤ length bytes.now }
 {
     for (i, b) in bytes.iter().enumerate() {
@@ -68,7 +68,7 @@ fn line_len(bytes: &[u8]) -> usize
 
 // The index of the first byte that is no digit, or the length.
 fn wrong_at(bytes: &[u8]) -> usize
-    ensures { result ≡ wrong-at bytes.now }
+    ensures { result ≡ wrong_at bytes.now }
 {
     for (i, b) in bytes.iter().enumerate() {
         if !is_hex(*b) {

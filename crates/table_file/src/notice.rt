@@ -1,5 +1,5 @@
 ghost use Rattle.std.specs.Prelude.{◌≡◌, ◌≤◌, length, Ok};
-ghost use Rattle.table_file.specs.Notices.{notice-line, of-fault, WritesBytes};
+ghost use Rattle.table_file.specs.Notices.{notice_line, of_fault, WritesBytes};
 
 use crate::fault::Fault;
 use crate::text::{put_byte, put_word};
@@ -21,7 +21,7 @@ pub struct Notice {
 impl Fault {
     // The notice of a file that was refused.
     pub fn notice(self) -> Notice
-        ensures { result ≡ of-fault self }
+        ensures { result ≡ of_fault self }
     {
         Notice {
             number: self.number.code(),
@@ -34,7 +34,7 @@ impl Fault {
 
 // Writes the frame of a notice over the front of a text, and answers its length.
 pub fn write_notice(notice: Notice, text: &mut [u8]) -> Result<usize, Refusal>
-    ensures { WritesBytes (notice-line notice) result text.old text.new }
+    ensures { WritesBytes (notice_line notice) result text.old text.new }
 {
     if text.len() < NOTICE_BYTES {
         return Err(Refusal::TooShort);
@@ -45,7 +45,7 @@ pub fn write_notice(notice: Notice, text: &mut [u8]) -> Result<usize, Refusal>
 
 fn put_notice(notice: Notice, text: &mut [u8])
     requires { 15 ≤ length text.old }
-    ensures { WritesBytes (notice-line notice) (Ok 15) text.old text.new }
+    ensures { WritesBytes (notice_line notice) (Ok 15) text.old text.new }
 {
     let at = put_byte(text, 0, NOTICE_KIND);
     let at = put_byte(text, at, notice.number);

@@ -3,7 +3,7 @@ ghost use Rattle.analysis.specs.Rivals.{among};
 ghost use Rattle.table_file.specs.Digits.{AllDigits};
 ghost use Rattle.table_file.specs.Frames.{meaning, Made};
 ghost use Rattle.table_file.specs.Stored.{numbers};
-ghost use Rattle.table_file.specs.Progress.{begin, step-cores, step-task, check-place, step-place, step, finish, view, Few};
+ghost use Rattle.table_file.specs.Progress.{begin, step_cores, step_task, check_place, step_place, step, finish, view, Few};
 
 use crate::fault::{Fault, Number};
 use crate::frames::{Frame, cores_in, place_in, task_in};
@@ -79,8 +79,8 @@ impl Reader {
         requires hex { AllDigits digits.now }
         requires few { Few self.old }
         ensures { MatchResult result
-            (λ _. (step-cores (view self.old) digits.now line ≡ Ok (view self.new)) × Few self.new)
-            (λ f. (step-cores (view self.old) digits.now line ≡ Err f) × (self.new ≡ self.old)) }
+            (λ _. (step_cores (view self.old) digits.now line ≡ Ok (view self.new)) × Few self.new)
+            (λ f. (step_cores (view self.old) digits.now line ≡ Err f) × (self.new ≡ self.old)) }
     {
         let cores = cores_in(digits);
         if cores < 1 || cores > MOST_CORES {
@@ -96,8 +96,8 @@ impl Reader {
         requires hex { AllDigits digits.now }
         requires few { Few self.old }
         ensures { MatchResult result
-            (λ _. (step-task (view self.old) digits.now line ≡ Ok (view self.new)) × Few self.new)
-            (λ f. (step-task (view self.old) digits.now line ≡ Err f) × (self.new ≡ self.old)) }
+            (λ _. (step_task (view self.old) digits.now line ≡ Ok (view self.new)) × Few self.new)
+            (λ f. (step_task (view self.old) digits.now line ≡ Err f) × (self.new ≡ self.old)) }
     {
         let at = self.count;
         if at >= MOST_TASKS {
@@ -118,8 +118,8 @@ impl Reader {
         requires hex { AllDigits digits.now }
         requires few { Few self.old }
         ensures { MatchResult result
-            (λ _. (step-place (view self.old) digits.now line ≡ Ok (view self.new)) × Few self.new)
-            (λ f. (step-place (view self.old) digits.now line ≡ Err f) × (self.new ≡ self.old)) }
+            (λ _. (step_place (view self.old) digits.now line ≡ Ok (view self.new)) × Few self.new)
+            (λ f. (step_place (view self.old) digits.now line ≡ Err f) × (self.new ≡ self.old)) }
     {
         let at = self.placed;
         if at >= self.count {
@@ -136,7 +136,7 @@ impl Reader {
     // Refuses a place for its task or its length.
     fn check_place(&self, place: Place, line: u16) -> Result<(), Fault>
         requires few { Few self.now }
-        ensures { result ≡ check-place (view self.now) place line }
+        ensures { result ≡ check_place (view self.now) place line }
     {
         let number = place.task as usize;
         if number < 1 || number > self.count {

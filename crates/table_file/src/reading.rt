@@ -1,7 +1,7 @@
 ghost use Rattle.std.specs.Prelude.{◌≡◌, Ok, Err, MatchResult};
 ghost use Rattle.table_file.specs.Progress.{carried, view, Few};
 ghost use Rattle.table_file.specs.Promises.{Reads};
-ghost use Rattle.table_file.specs.Reading.{read-file};
+ghost use Rattle.table_file.specs.Reading.{read_file};
 
 use crate::fault::{Fault, Number};
 use crate::frames::frame_of;
@@ -14,8 +14,8 @@ const MOST_BYTES: usize = 65_535;
 // Reads all frames of a file, or refuses the first line that breaks a rule.
 fn read_frames(bytes: &[u8]) -> Result<Reader, Fault>
     ensures { MatchResult result
-        (λ reader. (read-file bytes.now ≡ Ok (carried (view reader))) × Few reader)
-        (λ f. read-file bytes.now ≡ Err f) }
+        (λ reader. (read_file bytes.now ≡ Ok (carried (view reader))) × Few reader)
+        (λ f. read_file bytes.now ≡ Err f) }
 {
     if bytes.len() > MOST_BYTES {
         return Err(Fault::of_line(Number::TooLong, 1));

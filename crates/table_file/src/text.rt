@@ -1,7 +1,7 @@
 ghost use Rattle.std.specs.Prelude.{◌≡◌, ◌+◌, ◌<◌, ◌≤◌, length};
 ghost use Rattle.analysis.specs.Rivals.{TaskWithinLimits};
-ghost use Rattle.table_file.specs.Digits.{digit-text, byte-text, word-text};
-ghost use Rattle.table_file.specs.FileText.{cores-line, task-line, place-line};
+ghost use Rattle.table_file.specs.Digits.{digit_text, byte_text, word_text};
+ghost use Rattle.table_file.specs.FileText.{cores_line, task_line, place_line};
 ghost use Rattle.table_file.specs.Puts.{put};
 
 use crate::frames::{CORES_KIND, PLACE_KIND, TASK_KIND};
@@ -13,7 +13,7 @@ pub(crate) fn put_cores(text: &mut [u8], at: usize, cores: u32) -> usize
     requires room { at + 5 ≤ length text.old }
     requires byte { cores < 256 }
     ensures at { result ≡ at + 5 }
-    ensures text { text.new ≡ put (cores-line cores) at text.old }
+    ensures text { text.new ≡ put (cores_line cores) at text.old }
 {
     let at = put_byte(text, at, CORES_KIND);
     let at = put_byte(text, at, cores as u8);
@@ -26,7 +26,7 @@ pub(crate) fn put_task(text: &mut [u8], at: usize, t: Task) -> usize
     requires room { at + 15 ≤ length text.old }
     requires within { TaskWithinLimits t }
     ensures at { result ≡ at + 15 }
-    ensures text { text.new ≡ put (task-line t) at text.old }
+    ensures text { text.new ≡ put (task_line t) at text.old }
 {
     let at = put_byte(text, at, TASK_KIND);
     let at = put_word(text, at, t.cost);
@@ -42,7 +42,7 @@ pub(crate) fn put_place(text: &mut [u8], at: usize, p: Place) -> usize
     requires byte { p.task < 256 }
     requires word { p.length < 65536 }
     ensures at { result ≡ at + 9 }
-    ensures text { text.new ≡ put (place-line p) at text.old }
+    ensures text { text.new ≡ put (place_line p) at text.old }
 {
     let at = put_byte(text, at, PLACE_KIND);
     let at = put_byte(text, at, p.task as u8);
@@ -56,7 +56,7 @@ pub(crate) fn put_word(text: &mut [u8], at: usize, w: u32) -> usize
     requires room { at + 4 ≤ length text.old }
     requires word { w < 65536 }
     ensures at { result ≡ at + 4 }
-    ensures text { text.new ≡ put (word-text w) at text.old }
+    ensures text { text.new ≡ put (word_text w) at text.old }
 {
     let [high, low] = (w as u16).to_be_bytes();
     let next = put_byte(text, at, high);
@@ -67,7 +67,7 @@ pub(crate) fn put_word(text: &mut [u8], at: usize, w: u32) -> usize
 pub(crate) fn put_byte(text: &mut [u8], at: usize, b: u8) -> usize
     requires { at + 2 ≤ length text.old }
     ensures at { result ≡ at + 2 }
-    ensures text { text.new ≡ put (byte-text b) at text.old }
+    ensures text { text.new ≡ put (byte_text b) at text.old }
 {
     text[at] = digit(b / 16);
     text[at + 1] = digit(b % 16);
@@ -77,7 +77,7 @@ pub(crate) fn put_byte(text: &mut [u8], at: usize, b: u8) -> usize
 // The digit of a value below 16.
 fn digit(n: u8) -> u8
     requires { n < 16 }
-    ensures { result ≡ digit-text n }
+    ensures { result ≡ digit_text n }
 {
     if n < 10 { b'0' + n } else { b'A' + (n - 10) }
 }

@@ -4,11 +4,11 @@ ghost use Rattle.analysis.specs.Rivals.{TasksWithinLimits};
 ghost use Rattle.planner.specs.Reading.{FixedWithinLimits};
 ghost use Rattle.planner.specs.Rows.{tasks};
 ghost use Rattle.planner.specs.Tables.{held, holds};
-ghost use Rattle.table_file.specs.FileText.{task-line, place-line};
+ghost use Rattle.table_file.specs.FileText.{task_line, place_line};
 ghost use Rattle.table_file.specs.Promises.{Writes};
 ghost use Rattle.table_file.specs.Sheets.{kept};
 ghost use Rattle.table_file.specs.Puts.{put, paired, Writable};
-ghost use Rattle.table_file.specs.Stored.{of-open, of-fixed, no_place};
+ghost use Rattle.table_file.specs.Stored.{of_open, of_fixed, no_place};
 
 use crate::place::Place;
 use crate::placing::{order_by, stretch_to};
@@ -29,7 +29,7 @@ const PLACE_BYTES: usize = 9;
 
 // Writes the file of an open table, without places, over the front of a text, and answers its length.
 pub fn write_open(table: &OpenTable, text: &mut [u8]) -> Result<usize, Refusal>
-    ensures { Writes (of-open (held table.now)) result text.old text.new }
+    ensures { Writes (of_open (held table.now)) result text.old text.new }
 {
     let rows = table.rows();
     if text.len() < CORES_BYTES + TASK_BYTES * rows.len() {
@@ -41,7 +41,7 @@ pub fn write_open(table: &OpenTable, text: &mut [u8]) -> Result<usize, Refusal>
 
 // Writes the file of a fixed table, with its places, over the front of a text, and answers its length.
 pub fn write_fixed<R: Rule>(table: &FixedTable<R>, text: &mut [u8]) -> Result<usize, Refusal>
-    ensures { Writes (of-fixed (holds table.now)) result text.old text.new }
+    ensures { Writes (of_fixed (holds table.now)) result text.old text.new }
 {
     let rows = table.rows();
     let count = rows.len();
@@ -90,7 +90,7 @@ pub fn write_sheet(sheet: Sheet, text: &mut [u8]) -> (Result<usize, Refusal>, Sh
 fn places_of<R: Rule>(table: &FixedTable<R>) -> [Place; 32]
     requires { FixedWithinLimits (holds table.now) }
     ensures size { length result ≡ 32 }
-    ensures places { take (length (holds table.now).tasks) result ≡ (of-fixed (holds table.now)).places }
+    ensures places { take (length (holds table.now).tasks) result ≡ (of_fixed (holds table.now)).places }
 {
     let mut numbers = [0; 32];
     let mut lengths = [0; 32];
@@ -120,7 +120,7 @@ fn put_tasks(text: &mut [u8], start: usize, rows: &[Row]) -> usize
     requires room { start + 15 * length rows.now ≤ length text.old }
     requires within { TasksWithinLimits (tasks rows.now) }
     ensures at { result ≡ start + 15 * length rows.now }
-    ensures text { text.new ≡ put (flat_map task-line (tasks rows.now)) start text.old }
+    ensures text { text.new ≡ put (flat_map task_line (tasks rows.now)) start text.old }
 {
     let mut at = start;
     for row in rows {
@@ -134,7 +134,7 @@ fn put_places(text: &mut [u8], start: usize, places: &[Place]) -> usize
     requires room { start + 9 * length places.now ≤ length text.old }
     requires fit { Writable places.now }
     ensures at { result ≡ start + 9 * length places.now }
-    ensures text { text.new ≡ put (flat_map place-line places.now) start text.old }
+    ensures text { text.new ≡ put (flat_map place_line places.now) start text.old }
 {
     let mut at = start;
     for p in places {

@@ -1,5 +1,5 @@
 ghost use Rattle.std.specs.Prelude.{◌≡◌, true, IfOk};
-ghost use Rattle.plan_file.specs.Requests.{fix-then-plan};
+ghost use Rattle.plan_file.specs.Requests.{fix_then_plan};
 
 use super::Desk;
 use interference::full::Full;
@@ -18,7 +18,7 @@ impl Desk {
 
 // Fix the table under the full rule, and seek a plan: by the quick way, since that rule is steady.
 fn plan_calls(heap: Global) -> Result<Vec<Call<Full, Full>>, AllocError>
-    ensures { IfOk result (λ calls. fix-then-plan calls.items ≡ true) }
+    ensures { IfOk result (λ calls. fix_then_plan calls.items ≡ true) }
 {
     let mut calls = Vec::new(heap);
     calls.push(Call::FixSteady(Full))?;

@@ -3,7 +3,7 @@ ghost use Rattle.planner.specs.Tables.{held, holds};
 ghost use Rattle.planner.specs.History.{Turn, still};
 ghost use Rattle.planner.specs.Reporting.{Shows};
 ghost use Rattle.planner.specs.Promises.{Promises};
-ghost use Rattle.planner.specs.Replaying.{sum-under, Steadily, request, state, came, answered, OpenDoes, FixedDoes, QuickDoes};
+ghost use Rattle.planner.specs.Replaying.{sum_under, Steadily, request, state, came, answered, OpenDoes, FixedDoes, QuickDoes};
 
 use super::reports::report;
 use super::{Call, FixedCall, OpenCall, Outcome, QuickCall, Report, Table};
@@ -64,7 +64,7 @@ fn turn<R: Rule + Drop, S: SteadyRule + Drop>(
     table: Table<R, S>,
     call: Call<R, S>,
 ) -> (Table<R, S>, Outcome)
-    ensures { Turn (sum-under R.Rule.meaning S.Rule.meaning) Steadily (state table) (request call) (came result.1) (state result.0) }
+    ensures { Turn (sum_under R.Rule.meaning S.Rule.meaning) Steadily (state table) (request call) (came result.1) (state result.0) }
 {
     match (table, call) {
         (Table::Open(mut t), Call::Open(c)) => {
@@ -100,7 +100,7 @@ fn carry_out<R: Rule + Drop, S: SteadyRule + Drop>(
 ) -> Table<R, S>
     requires { n < length reports.old }
     ensures inside { n < length reports.old }
-    ensures turned { (r : Report) × (reports.new ≡ slice_set reports.old n r) × Turn (sum-under R.Rule.meaning S.Rule.meaning) Steadily (state table) (request call) (came r.outcome) (state result) × Shows (state result) r }
+    ensures turned { (r : Report) × (reports.new ≡ slice_set reports.old n r) × Turn (sum_under R.Rule.meaning S.Rule.meaning) Steadily (state table) (request call) (came r.outcome) (state result) × Shows (state result) r }
 {
     let (next, outcome) = turn(table, call);
     reports[n] = report(&next, outcome);
@@ -115,7 +115,7 @@ pub fn replay<R: Rule + Drop, S: SteadyRule + Drop>(
     reports: &mut [Report],
 ) -> (usize, Table<R, S>)
     ensures count { result.0 ≡ min (length calls.items) (length reports.old) }
-    ensures promises { Promises (sum-under R.Rule.meaning S.Rule.meaning) Steadily (still (held table)) (map request (take result.0 calls.items)) (take result.0 reports.new) (state result.1) }
+    ensures promises { Promises (sum_under R.Rule.meaning S.Rule.meaning) Steadily (still (held table)) (map request (take result.0 calls.items)) (take result.0 reports.new) (state result.1) }
     ensures rest { drop result.0 reports.new ≡ drop result.0 reports.old }
 {
     let mut table = Table::Open(table);

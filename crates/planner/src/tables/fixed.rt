@@ -1,5 +1,5 @@
 ghost use Rattle.std.specs.Prelude.{◌≡◌, ℕ, ◌≤◌, length, vec_len, vec_capacity};
-ghost use Rattle.analysis.specs.Rivals.{cost-of};
+ghost use Rattle.analysis.specs.Rivals.{cost_of};
 ghost use Rattle.analysis.specs.Plans.{Named, IsChoice};
 ghost use Rattle.planner.specs.Rows.{tasks, lengths};
 
@@ -24,5 +24,5 @@ pub struct FixedTable<R: Rule> {
     ghost whole: { vec_len order ≡ vec_len rows.items },
     ghost roomy: { 32 ≤ vec_capacity order },
     ghost named: { Named (vec_len rows.items) order.items },
-    ghost choice: { IsChoice (cost-of (tasks rows.items.items)) (vec_len rows.items) (lengths rows.items.items) },
+    ghost choice: { IsChoice (cost_of (tasks rows.items.items)) (vec_len rows.items) (lengths rows.items.items) },
 }

@@ -2,7 +2,7 @@ ghost use Rattle.std.specs.Prelude.{◌≡◌, ℕ, ◌-◌, ◌<◌, ◌≤◌,
 ghost use Rattle.analysis.specs.Rivals.{TaskWithinLimits};
 ghost use Rattle.planner.specs.Rows.{Fresh};
 ghost use Rattle.planner.specs.Tables.{opened, kept};
-ghost use Rattle.planner.specs.Calls.{HasTask, task-numbered, with-cost};
+ghost use Rattle.planner.specs.Calls.{HasTask, task_numbered, with_cost};
 
 use crate::rows::{Row, Rows};
 use analysis::checks::is_within_limits;
@@ -25,7 +25,7 @@ impl Rows {
 
     fn task(&self, number: u32) -> Task
         requires { HasTask (kept self.now).tasks number }
-        ensures { result ≡ task-numbered (kept self.now).tasks number }
+        ensures { result ≡ task_numbered (kept self.now).tasks number }
     {
         self.items[number as usize - 1].task
     }
@@ -33,8 +33,8 @@ impl Rows {
     // Whether the task would keep its limits with this cost.
     pub(in crate::tables) fn can_cost(&self, number: u32, cost: u32) -> bool
         requires { HasTask (kept self.now).tasks number }
-        ensures { MatchBool result (TaskWithinLimits (with-cost (task-numbered (kept self.now).tasks number) cost))
-            (TaskWithinLimits (with-cost (task-numbered (kept self.now).tasks number) cost) → ⊥) }
+        ensures { MatchBool result (TaskWithinLimits (with_cost (task_numbered (kept self.now).tasks number) cost))
+            (TaskWithinLimits (with_cost (task_numbered (kept self.now).tasks number) cost) → ⊥) }
     {
         let mut task = self.task(number);
         task.cost = cost;
@@ -44,8 +44,8 @@ impl Rows {
     // Whether the task can have a region of this length: from 1 to its cost.
     pub(in crate::tables) fn can_have(&self, number: u32, region: u32) -> bool
         requires { HasTask (kept self.now).tasks number }
-        ensures { MatchBool result ((1 ≤ region) × (region ≤ (task-numbered (kept self.now).tasks number).cost))
-            ((1 ≤ region) × (region ≤ (task-numbered (kept self.now).tasks number).cost) → ⊥) }
+        ensures { MatchBool result ((1 ≤ region) × (region ≤ (task_numbered (kept self.now).tasks number).cost))
+            ((1 ≤ region) × (region ≤ (task_numbered (kept self.now).tasks number).cost) → ⊥) }
     {
         is_length(region, self.task(number).cost)
     }
@@ -73,8 +73,8 @@ impl Rows {
 
     pub(in crate::tables) fn amend(&mut self, number: u32, cost: u32)
         requires has { HasTask (kept self.old).tasks number }
-        requires limits { TaskWithinLimits (with-cost (task-numbered (kept self.old).tasks number) cost) }
-        ensures keeps { kept self.new ≡ opened (kept self.old).cores (slice_set (kept self.old).tasks (number - 1) (with-cost (task-numbered (kept self.old).tasks number) cost)) }
+        requires limits { TaskWithinLimits (with_cost (task_numbered (kept self.old).tasks number) cost) }
+        ensures keeps { kept self.new ≡ opened (kept self.old).cores (slice_set (kept self.old).tasks (number - 1) (with_cost (task_numbered (kept self.old).tasks number) cost)) }
         ensures fresh { Fresh self.old.items.items → Fresh self.new.items.items }
     {
         let i = number as usize - 1;
@@ -92,7 +92,7 @@ impl Rows {
 
 // Changes the cost of the one task record that is lent.
 fn change(row: &mut Row, cost: u32)
-    ensures task { row.new.task ≡ with-cost row.old.task cost }
+    ensures task { row.new.task ≡ with_cost row.old.task cost }
     ensures length { row.new.length ≡ row.old.length }
     ensures bound { row.new.bound ≡ row.old.bound }
 {

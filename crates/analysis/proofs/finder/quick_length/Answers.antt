@@ -1,8 +1,8 @@
 use Rattle.std.proofs.Common.{ℕ, ◌+◌, ◌-◌, ◌/◌, ◌<◌, ◌≤◌, ⊎_elim, arith, rules}
 use Rattle.std.proofs.lemmas.Bool.{cases_lt}
 use Rattle.analysis.specs.Passing.{Meets}
-use Rattle.analysis.proofs.Fixpoint.{when-no}
-use Rattle.analysis.proofs.Steadiness.{longer-meets}
+use Rattle.analysis.proofs.Fixpoint.{when_no}
+use Rattle.analysis.proofs.Steadiness.{longer_meets}
 use Rattle.analysis.proofs.finder.quick_length.Goals as goal
 
 pub returns-then-not-passes : goal.returns-then-not-passes
@@ -12,8 +12,8 @@ returns-then-not-passes g c f a b h =
     let t = p.task in
     let sum = g.R.Rule.meaning x.rule.now in
     let M : ℕ → Type 0 = Meets sum p.cores t p.upper.now p.lower.now in
-    when-no c.passes.result (M t.cost) (M t.cost → ⊥) c.if-not-passes.true c.passes.ensures
-    (longer-meets sum c.steadies.ensures p.cores t p.upper.now p.lower.now p.some p.most p.limits p.few p.uppers p.lowers f t.cost a b (omega arith) h)
+    when_no c.passes.result (M t.cost) (M t.cost → ⊥) c.if-not-passes.true c.passes.ensures
+    (longer_meets sum c.steadies.ensures p.cores t p.upper.now p.lower.now p.some p.most p.limits p.few p.uppers p.lowers f t.cost a b (omega arith) h)
 
 pub halving-preserved : goal.halving-preserved
 halving-preserved g c =
@@ -24,10 +24,10 @@ halving-preserved g c =
     let sum = g.R.Rule.meaning x.rule.now in
     let M : ℕ → Type 0 = Meets sum p.cores t p.upper.now p.lower.now in
     let half = c.halving.least + (c.halving.most - c.halving.least) / 2 in
-    let fails = when-no c.passes-in-halving.result (M half) (M half → ⊥) c.if-passes.false c.passes-in-halving.ensures in (
+    let fails = when_no c.passes-in-halving.result (M half) (M half → ⊥) c.if-passes.false c.passes-in-halving.ensures in (
       omega arith,
       omega arith,
       v.2,
       v.3,
-      λ f a b h. fails (longer-meets sum c.steadies.ensures p.cores t p.upper.now p.lower.now p.some p.most p.limits p.few p.uppers p.lowers f half a (omega arith) (omega arith) h),
+      λ f a b h. fails (longer_meets sum c.steadies.ensures p.cores t p.upper.now p.lower.now p.some p.most p.limits p.few p.uppers p.lowers f half a (omega arith) (omega arith) h),
     )

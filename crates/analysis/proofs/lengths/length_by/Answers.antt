@@ -1,10 +1,10 @@
 use Rattle.std.proofs.Common.{ℕ, List, length, sym, ap, ◌∙◌, subst, arith}
 use Rattle.std.proofs.lemmas.List.{length-map}
-use Rattle.analysis.specs.Rivals.{finish-limit, finish-limits, uppers, lowers, cost-of, limit-of}
+use Rattle.analysis.specs.Rivals.{finish_limit, finish_limits, uppers, lowers, cost_of, limit_of}
 use Rattle.analysis.specs.Passing.{Meets}
 use Rattle.analysis.specs.Bounds.{BoundsWithin}
 use Rattle.analysis.specs.Steps.{FirstTo}
-use Rattle.analysis.proofs.Stood.{carried-over, limits-within}
+use Rattle.analysis.proofs.Stood.{carried_over, limits_within}
 use Rattle.analysis.proofs.lengths.length_by.Goals as goal
 
 pub stand-place-requires : goal.stand-place-requires
@@ -12,8 +12,8 @@ stand-place-requires g c =
     let s = c.args.set.now in
     let ts = s.tasks.now in
     record {
-      late = omega (arith, ap length c.requires.late, length-map ts finish-limit);
-      finishes = subst (λ (l : List ℕ). BoundsWithin (length ts) (cost-of ts) (limit-of ts) l) (sym c.requires.late) (limits-within ts s.limits);
+      late = omega (arith, ap length c.requires.late, length-map ts finish_limit);
+      finishes = subst (λ (l : List ℕ). BoundsWithin (length ts) (cost_of ts) (limit_of ts) l) (sym c.requires.late) (limits_within ts s.limits);
       room = c.requires.room;
       choice = c.requires.choice;
       here = c.requires.here;
@@ -25,5 +25,5 @@ returns g c =
     let ts = a.set.now.tasks.now in
     let e = c.stand-place.ensures in
     let late = c.requires.late in
-    carried-over (λ m t us ls. FirstTo (Meets (g.R.Rule.meaning a.rule.now) m t us ls) t.cost c.first.result) e.cores e.task
+    carried_over (λ m t us ls. FirstTo (Meets (g.R.Rule.meaning a.rule.now) m t us ls) t.cost c.first.result) e.cores e.task
     (e.upper ∙ ap (λ l. uppers ts l a.low.now a.k) late) (e.lower ∙ ap (λ l. lowers ts l a.lens.now a.low.now a.k) late) c.first.ensures

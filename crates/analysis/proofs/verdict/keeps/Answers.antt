@@ -1,7 +1,7 @@
 use Rattle.std.proofs.Common.{◌≡◌, length, get_or, subst}
-use Rattle.analysis.specs.Rivals.{uppers, lowers, cost-of}
-use Rattle.analysis.specs.Bounds.{next-bound, bound_of}
-use Rattle.analysis.proofs.Stood.{carried-over, lower-part, when-eqb}
+use Rattle.analysis.specs.Rivals.{uppers, lowers, cost_of}
+use Rattle.analysis.specs.Bounds.{next_bound, bound_of}
+use Rattle.analysis.proofs.Stood.{carried_over, lower_part, when_eqb}
 use Rattle.analysis.proofs.verdict.keeps.Goals as goal
 
 pub returns : goal.returns
@@ -18,6 +18,6 @@ returns g c =
     let r = c.next.result in
     let e = c.stand-place.ensures in
     let sum = g.R.Rule.meaning a.rule.now in
-    let at_place = carried-over (λ m t us ls. r ≡ next-bound sum m t.cost f us ls b) e.cores e.task e.upper e.lower c.next.ensures in
-    when-eqb r (bound_of sum o.set.cores ts q lens k bs b) b
-    (subst (λ low. r ≡ next-bound sum o.set.cores (cost-of ts k) f (uppers ts bs low k) (lowers ts bs lens low k) b) (lower-part (length ts) q a.p o.named c.requires.place) at_place)
+    let at_place = carried_over (λ m t us ls. r ≡ next_bound sum m t.cost f us ls b) e.cores e.task e.upper e.lower c.next.ensures in
+    when_eqb r (bound_of sum o.set.cores ts q lens k bs b) b
+    (subst (λ low. r ≡ next_bound sum o.set.cores (cost_of ts k) f (uppers ts bs low k) (lowers ts bs lens low k) b) (lower_part (length ts) q a.p o.named c.requires.place) at_place)

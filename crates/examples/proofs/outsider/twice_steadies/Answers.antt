@@ -1,5 +1,5 @@
-use Rattle.examples.specs.TwiceLaws.{twice-steady}
+use Rattle.examples.specs.TwiceLaws.{twice_steady}
 use Rattle.examples.proofs.outsider.twice_steadies.Goals as goal
 
 pub returns : goal.returns
-returns c = twice-steady
+returns c = twice_steady

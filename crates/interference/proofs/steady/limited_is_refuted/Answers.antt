@@ -3,16 +3,16 @@ use Rattle.interference.specs.Questions.{Valid, moved}
 use Rattle.interference.specs.Laws.{alone}
 use Rattle.interference.proofs.steady.limited_is_refuted.Goals as goal
 
-alone-valid : Valid alone
-alone-valid = record {
+alone_valid : Valid alone
+alone_valid = record {
   times = (omega arith, omega arith, omega arith, omega arith, omega arith);
   sizes = (omega arith, omega arith, omega arith);
   uppers = λ i lt. absurd (omega arith);
   lowers = λ i lt. absurd (omega arith);
 }
 
-moved-valid : Valid (moved alone 1)
-moved-valid = record {
+moved_valid : Valid (moved alone 1)
+moved_valid = record {
   times = (omega arith, omega arith, omega arith, omega arith, omega arith);
   sizes = (omega arith, omega arith, omega arith);
   uppers = λ i lt. absurd (omega arith);
@@ -21,6 +21,6 @@ moved-valid = record {
 
 pub returns : goal.returns
 returns c = record {
-  valid = (alone-valid, moved-valid);
-  refuted = λ steady. omega (arith, steady alone 1 alone-valid moved-valid);
+  valid = (alone_valid, moved_valid);
+  refuted = λ steady. omega (arith, steady alone 1 alone_valid moved_valid);
 }

@@ -1,11 +1,11 @@
 ghost use Rattle.std.specs.Prelude.{◌≡◌, ℕ, ◌-◌, ◌≤◌, false, length, take, vec_len, vec_capacity, MatchOption, OnOk, slice_set};
 ghost use Rattle.planner.specs.Refusals.{Called};
-ghost use Rattle.analysis.specs.Rivals.{cost-of};
+ghost use Rattle.analysis.specs.Rivals.{cost_of};
 ghost use Rattle.analysis.specs.Plans.{Named, IsChoice};
 ghost use Rattle.planner.specs.Rows.{tasks, lengths, bounds};
-ghost use Rattle.planner.specs.Tables.{kept, held, opened, fixed, holds, downward, new-fixed};
+ghost use Rattle.planner.specs.Tables.{kept, held, opened, fixed, holds, downward, new_fixed};
 ghost use Rattle.planner.specs.Reading.{standing};
-ghost use Rattle.planner.specs.Calls.{upward, NamesEach, HasTask, LengthFits, no-bounds, OrderRefuses, OrderMakes, StretchRefuses, StretchMakes};
+ghost use Rattle.planner.specs.Calls.{upward, NamesEach, HasTask, LengthFits, no_bounds, OrderRefuses, OrderMakes, StretchRefuses, StretchMakes};
 
 use super::FixedTable;
 use crate::open::OpenTable;
@@ -18,7 +18,7 @@ impl OpenTable {
     // Joins the table with a rule: places in number order, lengths 1, bounds 0, both marks off.
     pub fn fix<R: Rule>(self, rule: R) -> FixedTable<R>
         ensures rule { result.rule ≡ rule }
-        ensures holds { holds result ≡ new-fixed (held self) }
+        ensures holds { holds result ≡ new_fixed (held self) }
     {
         let (rows, order) = started(self.rows, self.spare);
         FixedTable {
@@ -35,11 +35,11 @@ impl OpenTable {
 fn started(rows: Rows, spare: Vec<usize>) -> (Rows, Vec<usize>)
     requires none { vec_len spare ≡ 0 }
     requires room { 32 ≤ vec_capacity spare }
-    ensures holds { fixed result.0.cores (tasks result.0.items.items) result.1.items (lengths result.0.items.items) (bounds result.0.items.items) false false ≡ new-fixed (kept rows) }
+    ensures holds { fixed result.0.cores (tasks result.0.items.items) result.1.items (lengths result.0.items.items) (bounds result.0.items.items) false false ≡ new_fixed (kept rows) }
     ensures whole { vec_len result.1 ≡ vec_len result.0.items }
     ensures roomy { 32 ≤ vec_capacity result.1 }
     ensures named { Named (vec_len result.0.items) result.1.items }
-    ensures choice { IsChoice (cost-of (tasks result.0.items.items)) (vec_len result.0.items) (lengths result.0.items.items) }
+    ensures choice { IsChoice (cost_of (tasks result.0.items.items)) (vec_len result.0.items) (lengths result.0.items.items) }
 {
     let mut rows = rows;
     let mut order = spare;
@@ -68,7 +68,7 @@ impl<R: Rule> FixedTable<R> {
         requires has { HasTask (holds self.old).tasks number }
         requires fits { LengthFits (holds self.old) number region }
         ensures rule { self.new.rule ≡ self.old.rule }
-        ensures holds { holds self.new ≡ fixed (holds self.old).cores (holds self.old).tasks (holds self.old).order (slice_set (holds self.old).lengths (number - 1) region) (no-bounds (holds self.old)) false false }
+        ensures holds { holds self.new ≡ fixed (holds self.old).cores (holds self.old).tasks (holds self.old).order (slice_set (holds self.old).lengths (number - 1) region) (no_bounds (holds self.old)) false false }
     {
         let mut lens = self.rows.read_lengths();
         lens[number as usize - 1] = region;
@@ -96,7 +96,7 @@ impl<R: Rule> FixedTable<R> {
         requires named { NamesEach (length (holds self.old).tasks) places.now }
         requires fresh { take (length (holds self.old).tasks) fresh.now ≡ upward places.now }
         ensures rule { self.new.rule ≡ self.old.rule }
-        ensures holds { holds self.new ≡ fixed (holds self.old).cores (holds self.old).tasks (upward places.now) (holds self.old).lengths (no-bounds (holds self.old)) false false }
+        ensures holds { holds self.new ≡ fixed (holds self.old).cores (holds self.old).tasks (upward places.now) (holds self.old).lengths (no_bounds (holds self.old)) false false }
         ensures stands { standing (holds self.new).order ≡ places.now }
     {
         let lens = self.rows.read_lengths();

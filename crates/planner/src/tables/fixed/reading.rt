@@ -2,7 +2,7 @@ ghost use Rattle.std.specs.Prelude.{◌≡◌, ℕ, ◌<◌, ◌≤◌, length, 
 ghost use Rattle.analysis.specs.Plans.{Named};
 ghost use Rattle.planner.specs.Rows.{tasks as row-tasks, lengths as row-lengths, bounds as row-bounds};
 ghost use Rattle.planner.specs.Tables.{holds};
-ghost use Rattle.planner.specs.Reading.{FixedWithinLimits, ReadsOut, Room, lent, filled, over, standing, as-standing};
+ghost use Rattle.planner.specs.Reading.{FixedWithinLimits, ReadsOut, Room, lent, filled, over, standing, as_standing};
 
 use super::FixedTable;
 use crate::marks::Marks;
@@ -99,8 +99,8 @@ pub(in crate::tables) fn write_numbers(order: &[usize], out: &mut [u32])
 fn write_places(order: &[usize], rows: &[Row], lengths: &mut [u32], bounds: &mut [u32])
     requires named { Named (length rows.now) order.now }
     requires room { (length order.now ≤ length lengths.old) × (length order.now ≤ length bounds.old) }
-    ensures lengths { lengths.new ≡ over (as-standing order.now (row-lengths rows.now)) lengths.old }
-    ensures bounds { bounds.new ≡ over (as-standing order.now (row-bounds rows.now)) bounds.old }
+    ensures lengths { lengths.new ≡ over (as_standing order.now (row-lengths rows.now)) lengths.old }
+    ensures bounds { bounds.new ≡ over (as_standing order.now (row-bounds rows.now)) bounds.old }
 {
     let count = order.len();
     for p in 0..count {

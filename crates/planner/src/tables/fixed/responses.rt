@@ -1,5 +1,5 @@
 ghost use Rattle.std.specs.Prelude.{◌≡◌, ℕ, ◌≤◌, length, MatchOption};
-ghost use Rattle.analysis.specs.Rivals.{TasksWithinLimits, cost-of};
+ghost use Rattle.analysis.specs.Rivals.{TasksWithinLimits, cost_of};
 ghost use Rattle.analysis.specs.Plans.{Named, IsChoice};
 ghost use Rattle.analysis.specs.Bounds.{LeastSolution, NoSolution};
 ghost use Rattle.planner.specs.Refusals.{Called};
@@ -69,7 +69,7 @@ fn bounds_in<'a, R: Rule>(
     requires whole { length order.now ≡ length tasks.now }
     requires named { Named (length tasks.now) order.now }
     requires room { length tasks.now ≤ length lens.now }
-    requires choice { IsChoice (cost-of tasks.now) (length tasks.now) lens.now }
+    requires choice { IsChoice (cost_of tasks.now) (length tasks.now) lens.now }
     ensures { MatchOption result (NoSolution (R.Rule.meaning rule.now) cores tasks.now order.now lens.now)
         (λ bs. LeastSolution (R.Rule.meaning rule.now) cores tasks.now order.now lens.now bs) }
 {

@@ -3,7 +3,7 @@ use Rattle.std.proofs.lemmas.List.{length-set}
 use Rattle.analysis.specs.declared.task.Task.{Task}
 use Rattle.planner.specs.Tables.{holds}
 use Rattle.table_file.specs.Stored.{no_place, EachFits, StretchedTo}
-use Rattle.table_file.proofs.Settled.{stretched, stretched-more}
+use Rattle.table_file.proofs.Settled.{stretched, stretched_more}
 use Rattle.table_file.proofs.placing.stretch_to.Goals as goal
 
 pub loop-p-preserved : goal.loop-p-preserved
@@ -19,5 +19,5 @@ loop-p-preserved c =
       ap (λ x. x.tasks) e ∙ v.1,
       ap (λ x. x.order) e ∙ v.2,
       ap (λ x. length x.lengths) e ∙ length-set m.lengths ((get_or ps i no_place).task - 1) (get_or ps i no_place).length ∙ v.3 ∙ sym (ap (λ x. length x.tasks) e),
-      subst (λ (ls : List ℕ). StretchedTo ps (i + 1) ls) (sym (ap (λ x. x.lengths) e)) (stretched-more c.stretch.result m (holds c.stretch.new.self) ps i l fits v.3 v.4),
+      subst (λ (ls : List ℕ). StretchedTo ps (i + 1) ls) (sym (ap (λ x. x.lengths) e)) (stretched_more c.stretch.result m (holds c.stretch.new.self) ps i l fits v.3 v.4),
     )

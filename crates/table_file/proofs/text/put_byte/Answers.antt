@@ -1,6 +1,6 @@
 use Rattle.std.proofs.Common.{◌+◌, [], ◌∷◌, set, refl, ap, ◌∙◌, arith}
 use Rattle.table_file.specs.Puts.{put}
-use Rattle.table_file.proofs.OnPuts.{put_one, put-put}
+use Rattle.table_file.proofs.OnPuts.{put_one, put_put}
 use Rattle.std.proofs.lemmas.List.{length-set}
 use Rattle.table_file.proofs.text.put_byte.Goals as goal
 
@@ -14,6 +14,6 @@ returns c =
       at = refl;
       text = put_one (set old at x) (at + 1) y (omega (arith, length-set old at x))
           ∙ ap (put (y ∷ []) (at + 1)) (put_one old at x (omega arith))
-          ∙ put-put (x ∷ []) (y ∷ []) old at (omega arith)
+          ∙ put_put (x ∷ []) (y ∷ []) old at (omega arith)
           ∙ (λ i. put (c.digit.ensures i ∷ c.digit-2.ensures i ∷ []) at old);
     }

@@ -1,5 +1,5 @@
 use Rattle.std.proofs.Common.{ℕ, List, [], ◌∷◌, ◌++◌, arith}
-use Rattle.table_file.specs.Digits.{byte-text, word-text}
+use Rattle.table_file.specs.Digits.{byte_text, word_text}
 use Rattle.table_file.proofs.OnPuts.{put_then, put_one}
 use Rattle.table_file.proofs.text.put_place.Goals as goal
 
@@ -7,14 +7,14 @@ pub returns : goal.returns
 returns c =
     let old = c.args.text.now in
     let at = c.args.at in
-    let n : List ℕ = byte-text c.args.p.task in
-    let l : List ℕ = word-text c.args.p.length in
-    let w1 = c.put-byte-at in
-    let w2 = c.put-byte-at-2 in
-    let w3 = c.put-word-at in
-    let e2 = put_then (byte-text 3) n old w1.new.text w2.new.text at w1.result (omega arith) w1.ensures.text w1.ensures.at w2.ensures.text in
-    let e3 = put_then (byte-text 3 ++ n) l old w2.new.text w3.new.text at w2.result (omega arith) e2 (omega arith) w3.ensures.text in
+    let n : List ℕ = byte_text c.args.p.task in
+    let l : List ℕ = word_text c.args.p.length in
+    let w1 = c.put_byte-at in
+    let w2 = c.put_byte-at-2 in
+    let w3 = c.put_word-at in
+    let e2 = put_then (byte_text 3) n old w1.new.text w2.new.text at w1.result (omega arith) w1.ensures.text w1.ensures.at w2.ensures.text in
+    let e3 = put_then (byte_text 3 ++ n) l old w2.new.text w3.new.text at w2.result (omega arith) e2 (omega arith) w3.ensures.text in
     record {
       at = omega arith;
-      text = put_then (byte-text 3 ++ (n ++ l)) (10 ∷ []) old w3.new.text _ at w3.result (omega arith) e3 (omega arith) (put_one w3.new.text w3.result 10 (omega arith));
+      text = put_then (byte_text 3 ++ (n ++ l)) (10 ∷ []) old w3.new.text _ at w3.result (omega arith) e3 (omega arith) (put_one w3.new.text w3.result 10 (omega arith));
     }

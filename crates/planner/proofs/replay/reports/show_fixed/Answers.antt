@@ -8,30 +8,30 @@ use Rattle.planner.proofs.replay.reports.show_fixed.Goals as goal
 few : (rows : List Row) (ts : List Task) → tasks rows ≡ ts → length ts ≤ 32 → length rows ≤ 32
 few rows ts e h = omega (arith, length-map rows (λ x. x.task), ap length e)
 
-pub tasks-of-requires : goal.tasks-of-requires
-tasks-of-requires g c = let r = c.rows-rows in few r.result.now _ r.ensures.tasks r.ensures.within.few
+pub tasks_of-requires : goal.tasks_of-requires
+tasks_of-requires g c = let r = c.rows-rows in few r.result.now _ r.ensures.tasks r.ensures.within.few
 
-pub lengths-of-requires : goal.lengths-of-requires
-lengths-of-requires g c = let r = c.rows-rows in few r.result.now _ r.ensures.tasks r.ensures.within.few
+pub lengths_of-requires : goal.lengths_of-requires
+lengths_of-requires g c = let r = c.rows-rows in few r.result.now _ r.ensures.tasks r.ensures.within.few
 
-pub bounds-of-requires : goal.bounds-of-requires
-bounds-of-requires g c = let r = c.rows-rows in few r.result.now _ r.ensures.tasks r.ensures.within.few
+pub bounds_of-requires : goal.bounds_of-requires
+bounds_of-requires g c = let r = c.rows-rows in few r.result.now _ r.ensures.tasks r.ensures.within.few
 
 pub returns : goal.returns
 returns g c =
     let r = c.rows-rows in
-    let s = c.standing-places in
+    let s = c.standing_places in
     let count = sym (length-map r.result.now (λ x. x.task)) ∙ ap length r.ensures.tasks in
     record {
       outcome = refl;
       shows = record {
         kind = refl;
         marks = (s.ensures.passed, s.ensures.bounded);
-        cores = c.core-count.ensures;
+        cores = c.core_count.ensures;
         count = count;
-        tasks = c.tasks-of.ensures ∙ r.ensures.tasks;
+        tasks = c.tasks_of.ensures ∙ r.ensures.tasks;
         places = ap (λ k. take k s.result.1) count ∙ s.ensures.places;
-        lengths = c.lengths-of.ensures ∙ r.ensures.lengths;
-        bounds = c.bounds-of.ensures ∙ r.ensures.bounds;
+        lengths = c.lengths_of.ensures ∙ r.ensures.lengths;
+        bounds = c.bounds_of.ensures ∙ r.ensures.bounds;
       };
     }

@@ -2,8 +2,8 @@ use Rattle.std.proofs.Common.{length, sym, refl, ap, ◌∙◌, arith}
 use Rattle.std.proofs.lemmas.List.{length-map}
 use Rattle.planner.proofs.replay.reports.show_open.Goals as goal
 
-pub tasks-of-requires : goal.tasks-of-requires
-tasks-of-requires c =
+pub tasks_of-requires : goal.tasks_of-requires
+tasks_of-requires c =
     let r = c.rows-rows in
     omega (arith, length-map r.result.now (λ x. x.task), ap length r.ensures.tasks, r.ensures.within.few)
 
@@ -15,9 +15,9 @@ returns c =
       shows = record {
         kind = refl;
         marks = (refl, refl);
-        cores = c.core-count.ensures;
+        cores = c.core_count.ensures;
         count = sym (length-map r.result.now (λ x. x.task)) ∙ ap length r.ensures.tasks;
-        tasks = c.tasks-of.ensures ∙ r.ensures.tasks;
+        tasks = c.tasks_of.ensures ∙ r.ensures.tasks;
         none = (refl, refl, refl);
       };
     }

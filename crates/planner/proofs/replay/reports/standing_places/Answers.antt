@@ -2,7 +2,7 @@ use Rattle.std.proofs.Common.{◌≡◌, length, take, sym, ap, ◌∙◌, arith
 use Rattle.std.proofs.lemmas.List.{take_at}
 use Rattle.planner.specs.Tables.{holds}
 use Rattle.planner.specs.Reading.{standing, over}
-use Rattle.planner.proofs.OnLists.{length-standing}
+use Rattle.planner.proofs.OnLists.{length_standing}
 use Rattle.planner.proofs.replay.reports.standing_places.Goals as goal
 
 pub returns : goal.returns
@@ -13,5 +13,5 @@ returns g c =
     record {
       passed = h.1;
       bounded = h.2;
-      places = ap (λ l. take n l.tasks) h.3 ∙ take_at (standing m.order) _ n (length-standing m.order ∙ c.rows-rows.ensures.within.order.0);
+      places = ap (λ l. take n l.tasks) h.3 ∙ take_at (standing m.order) _ n (length_standing m.order ∙ c.rows-rows.ensures.within.order.0);
     }

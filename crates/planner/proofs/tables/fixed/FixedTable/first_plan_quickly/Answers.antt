@@ -2,19 +2,19 @@ use Rattle.std.proofs.Common.{◌≡◌, List, length, take, vec_len, ap, subst,
 use Rattle.analysis.specs.declared.task.Task.{Task}
 use Rattle.analysis.specs.Plans.{FirstPlan, NoPlan}
 use Rattle.planner.specs.Rows.{tasks}
-use Rattle.planner.proofs.OnRows.{within-as}
-use Rattle.planner.proofs.OnTables.{read-part}
+use Rattle.planner.proofs.OnRows.{within_as}
+use Rattle.planner.proofs.OnTables.{read_part}
 use Rattle.planner.proofs.tables.fixed.FixedTable.first_plan_quickly.Goals as goal
 
-pub first-plan-quickly-in-requires : goal.first-plan-quickly-in-requires
-first-plan-quickly-in-requires g c =
+pub first_plan_quickly_in-requires : goal.first_plan_quickly_in-requires
+first_plan_quickly_in-requires g c =
     let s = c.args.self.now in
-    let ts = read-part c.len-count.result (vec_len s.rows.items) c.read-tasks-tasks.result c.len-count.ensures c.read-tasks-tasks.ensures in
-    record { cores = (s.rows.some, s.rows.most); small = omega (arith, ap length ts, c.requires); limits = within-as (tasks s.rows.items.items) _ ts s.rows.limits }
+    let ts = read_part c.len-count.result (vec_len s.rows.items) c.read_tasks-tasks.result c.len-count.ensures c.read_tasks-tasks.ensures in
+    record { cores = (s.rows.some, s.rows.most); small = omega (arith, ap length ts, c.requires); limits = within_as (tasks s.rows.items.items) _ ts s.rows.limits }
 
 pub returns : goal.returns
 returns g c =
     let s = c.args.self.now in
-    let ts = read-part c.len-count.result (vec_len s.rows.items) c.read-tasks-tasks.result c.len-count.ensures c.read-tasks-tasks.ensures in
+    let ts = read_part c.len-count.result (vec_len s.rows.items) c.read_tasks-tasks.result c.len-count.ensures c.read_tasks-tasks.ensures in
     let sum = g.S.Rule.meaning s.rule in
-    subst (λ (x : List Task). MatchOption c.first-plan-quickly-in.result (NoPlan sum s.rows.cores x) (λ p. FirstPlan sum s.rows.cores x (take (length x) p.order) p.lengths)) ts c.first-plan-quickly-in.ensures
+    subst (λ (x : List Task). MatchOption c.first_plan_quickly_in.result (NoPlan sum s.rows.cores x) (λ p. FirstPlan sum s.rows.cores x (take (length x) p.order) p.lengths)) ts c.first_plan_quickly_in.ensures

@@ -3,28 +3,28 @@ use Rattle.std.proofs.lemmas.List.{length-map}
 use Rattle.analysis.specs.declared.task.Task.{Task}
 use Rattle.analysis.specs.Plans.{LeastLengths, NoLengths}
 use Rattle.planner.specs.Rows.{tasks}
-use Rattle.planner.proofs.OnRows.{within-as}
-use Rattle.planner.proofs.OnTables.{named-as, read-part}
+use Rattle.planner.proofs.OnRows.{within_as}
+use Rattle.planner.proofs.OnTables.{named_as, read_part}
 use Rattle.planner.proofs.tables.fixed.FixedTable.least_lengths_quickly.Goals as goal
 
-pub quick-lengths-in-requires : goal.quick-lengths-in-requires
-quick-lengths-in-requires g c =
+pub quick_lengths_in-requires : goal.quick_lengths_in-requires
+quick_lengths_in-requires g c =
     let s = c.args.self.now in
     let xs = s.rows.items.items in
-    let ts = read-part c.len-count.result (vec_len s.rows.items) c.read-tasks-tasks.result c.len-count.ensures c.read-tasks-tasks.ensures in
+    let ts = read_part c.len-count.result (vec_len s.rows.items) c.read_tasks-tasks.result c.len-count.ensures c.read_tasks-tasks.ensures in
     let n = length-map xs (λ r. r.task) in
     let k = ap length ts in
     record {
       cores = (s.rows.some, s.rows.most);
       few = omega (arith, k, n, s.rows.items.ok.0, s.rows.few);
-      limits = within-as (tasks xs) _ ts s.rows.limits;
+      limits = within_as (tasks xs) _ ts s.rows.limits;
       whole = omega (arith, k, n, s.rows.items.ok.0, s.whole, c.deref.ensures.len);
-      named = named-as (vec_items s.order) _ (vec_len s.rows.items) _ c.deref.ensures.value (omega (arith, k, n, s.rows.items.ok.0)) s.named;
+      named = named_as (vec_items s.order) _ (vec_len s.rows.items) _ c.deref.ensures.value (omega (arith, k, n, s.rows.items.ok.0)) s.named;
     }
 
 pub returns : goal.returns
 returns g c =
     let s = c.args.self.now in
-    let ts = read-part c.len-count.result (vec_len s.rows.items) c.read-tasks-tasks.result c.len-count.ensures c.read-tasks-tasks.ensures in
+    let ts = read_part c.len-count.result (vec_len s.rows.items) c.read_tasks-tasks.result c.len-count.ensures c.read_tasks-tasks.ensures in
     let sum = g.S.Rule.meaning s.rule in
-    subst₂ (λ (x : List Task) (q : List ℕ). MatchOption c.quick-lengths-in.result (NoLengths sum s.rows.cores x q) (λ lens. LeastLengths sum s.rows.cores x q lens)) ts c.deref.ensures.value c.quick-lengths-in.ensures
+    subst₂ (λ (x : List Task) (q : List ℕ). MatchOption c.quick_lengths_in.result (NoLengths sum s.rows.cores x q) (λ lens. LeastLengths sum s.rows.cores x q lens)) ts c.deref.ensures.value c.quick_lengths_in.ensures

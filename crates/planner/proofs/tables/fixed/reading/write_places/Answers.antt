@@ -2,7 +2,7 @@ use Rattle.std.proofs.Common.{◌≡◌, ℕ, ◌-◌, ◌<◌, length, get_or, 
 use Rattle.std.proofs.lemmas.List.{get_or-map}
 use Rattle.planner.specs.Rows.{lengths, bounds}
 use Rattle.planner.proofs.OnWrites.{blank}
-use Rattle.planner.proofs.OnLists.{column-more, column-all}
+use Rattle.planner.proofs.OnLists.{column_more, column_all}
 use Rattle.planner.proofs.tables.fixed.reading.write_places.Goals as goal
 
 pub loop-p-preserved : goal.loop-p-preserved
@@ -14,8 +14,8 @@ loop-p-preserved c =
     let here : p < length q = omega arith in
     let k = get_or q (length q - 1 - p) 0 in
     let inside : k < length rows = (c.requires.named (length q - 1 - p) (omega arith)).0 in (
-      column-more (λ j. get_or (lengths rows) j 0) q c.args.lengths.now c.loop-p.lengths p _ here (omega arith) v.0 (sym (get_or-map (λ r. r.length) rows k blank 0 inside)),
-      column-more (λ j. get_or (bounds rows) j 0) q c.args.bounds.now c.loop-p.bounds p _ here (omega arith) v.1 (sym (get_or-map (λ r. r.bound) rows k blank 0 inside)),
+      column_more (λ j. get_or (lengths rows) j 0) q c.args.lengths.now c.loop-p.lengths p _ here (omega arith) v.0 (sym (get_or-map (λ r. r.length) rows k blank 0 inside)),
+      column_more (λ j. get_or (bounds rows) j 0) q c.args.bounds.now c.loop-p.bounds p _ here (omega arith) v.1 (sym (get_or-map (λ r. r.bound) rows k blank 0 inside)),
     )
 
 pub returns : goal.returns
@@ -26,6 +26,6 @@ returns c =
     let v = c.loop-p.invariant in
     let all : p ≡ length q = omega arith in
     record {
-      lengths = column-all (λ j. get_or (lengths rows) j 0) q c.args.lengths.now c.loop-p.lengths p all v.0;
-      bounds = column-all (λ j. get_or (bounds rows) j 0) q c.args.bounds.now c.loop-p.bounds p all v.1;
+      lengths = column_all (λ j. get_or (lengths rows) j 0) q c.args.lengths.now c.loop-p.lengths p all v.0;
+      bounds = column_all (λ j. get_or (bounds rows) j 0) q c.args.bounds.now c.loop-p.bounds p all v.1;
     }

@@ -4,17 +4,17 @@ use Rattle.analysis.specs.declared.task.Task.{Task}
 use Rattle.analysis.specs.Rivals.{TaskWithinLimits}
 use Rattle.planner.specs.Rows.{tasks}
 use Rattle.planner.specs.Tables.{opened}
-use Rattle.planner.proofs.OnRows.{fresh_set, within-set, within-as, amended-task}
+use Rattle.planner.proofs.OnRows.{fresh_set, within_set, within_as, amended_task}
 use Rattle.planner.proofs.tables.rows.Rows.amend.Goals as goal
 
-pub invariant-of-self : goal.invariant-of-self
-invariant-of-self c =
+pub invariant_of-self : goal.invariant_of-self
+invariant_of-self c =
     let s = c.args.self.now in
     let xs = s.items.items in
     let n = c.args.number in
     let i = n - 1 in
     let inside : i < length xs = omega (arith, c.requires.has, length-map xs (λ r. r.task), s.items.ok.0) in
-    let k = amended-task xs i n c.args.cost c.index-mut.result.now c.change.new.row refl inside c.index-mut.ensures.value c.change.ensures.task in (
+    let k = amended_task xs i n c.args.cost c.index_mut.result.now c.change.new.row refl inside c.index_mut.ensures.value c.change.ensures.task in (
       s.some,
       (
         s.most,
@@ -23,7 +23,7 @@ invariant-of-self c =
           (
             s.room,
             (
-              within-as _ _ (map-set (λ r. r.task) xs i c.change.new.row) (within-set (tasks xs) i c.change.new.row.task s.limits (subst (λ (t : Task). TaskWithinLimits t) (sym k) c.requires.limits)),
+              within_as _ _ (map-set (λ r. r.task) xs i c.change.new.row) (within_set (tasks xs) i c.change.new.row.task s.limits (subst (λ (t : Task). TaskWithinLimits t) (sym k) c.requires.limits)),
               tt,
             ),
           ),
@@ -38,12 +38,12 @@ returns c =
     let n = c.args.number in
     let i = n - 1 in
     let inside : i < length xs = omega (arith, c.requires.has, length-map xs (λ r. r.task), s.items.ok.0) in
-    let k = amended-task xs i n c.args.cost c.index-mut.result.now c.change.new.row refl inside c.index-mut.ensures.value c.change.ensures.task in
+    let k = amended_task xs i n c.args.cost c.index_mut.result.now c.change.new.row refl inside c.index_mut.ensures.value c.change.ensures.task in
     let row = c.change.ensures in
     record {
       keeps = ap (opened s.cores) (map-set (λ r. r.task) xs i c.change.new.row ∙ ap (set (tasks xs) i) k);
-      fresh = fresh_set xs i c.index-mut.result.now c.change.new.row inside c.index-mut.ensures.value row.length row.bound;
+      fresh = fresh_set xs i c.index_mut.result.now c.change.new.row inside c.index_mut.ensures.value row.length row.bound;
     }
 
-pub index-mut-requires : goal.index-mut-requires
-index-mut-requires c = let s = c.args.self.now in omega (arith, c.requires.has, length-map s.items.items (λ r. r.task), s.items.ok.0)
+pub index_mut-requires : goal.index_mut-requires
+index_mut-requires c = let s = c.args.self.now in omega (arith, c.requires.has, length-map s.items.items (λ r. r.task), s.items.ok.0)

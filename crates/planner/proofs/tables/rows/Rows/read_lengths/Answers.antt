@@ -3,4 +3,4 @@ use Rattle.planner.specs.Rows.{lengths}
 use Rattle.planner.proofs.tables.rows.Rows.read_lengths.Goals as goal
 
 pub returns : goal.returns
-returns c = ap (λ k. take k c.lengths-of.result) (sym c.deref.ensures.len) ∙ c.lengths-of.ensures ∙ ap lengths c.deref.ensures.value
+returns c = ap (λ k. take k c.lengths_of.result) (sym c.deref.ensures.len) ∙ c.lengths_of.ensures ∙ ap lengths c.deref.ensures.value

@@ -3,4 +3,4 @@ use Rattle.planner.specs.Rows.{tasks}
 use Rattle.planner.proofs.tables.rows.Rows.read_tasks.Goals as goal
 
 pub returns : goal.returns
-returns c = ap (λ k. take k c.tasks-of.result) (sym c.deref.ensures.len) ∙ c.tasks-of.ensures ∙ ap tasks c.deref.ensures.value
+returns c = ap (λ k. take k c.tasks_of.result) (sym c.deref.ensures.len) ∙ c.tasks_of.ensures ∙ ap tasks c.deref.ensures.value

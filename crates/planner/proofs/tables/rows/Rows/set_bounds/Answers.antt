@@ -1,24 +1,24 @@
 use Rattle.std.proofs.Common.{◌≡◌, length, take, replicate, vec_len, refl, ap, ◌∙◌, arith, rules}
 use Rattle.std.proofs.lemmas.List.{with_items_is}
 use Rattle.planner.specs.Rows.{tasks, lengths, bounds}
-use Rattle.planner.proofs.OnRows.{within-as}
+use Rattle.planner.proofs.OnRows.{within_as}
 use Rattle.planner.proofs.tables.rows.Rows.set_bounds.Goals as goal
 
-pub invariant-of-self : goal.invariant-of-self
-invariant-of-self c =
+pub invariant_of-self : goal.invariant_of-self
+invariant_of-self c =
     let t = c.args.self.now in
-    let e = with_items_is t.items c.write-bounds.new.rows (search rules) in
-    (t.some, (t.most, (t.few, (t.room, (within-as _ _ (ap tasks e ∙ c.write-bounds.ensures.tasks ∙ ap tasks c.deref-mut.ensures.value) t.limits, tt)))))
+    let e = with_items_is t.items c.write_bounds.new.rows (search rules) in
+    (t.some, (t.most, (t.few, (t.room, (within_as _ _ (ap tasks e ∙ c.write_bounds.ensures.tasks ∙ ap tasks c.deref_mut.ensures.value) t.limits, tt)))))
 
 pub returns : goal.returns
 returns c =
     let t = c.args.self.now in
-    let e = with_items_is t.items c.write-bounds.new.rows (search rules) in
-    let n : length c.deref-mut.result.now ≡ vec_len t.items = search rules in
+    let e = with_items_is t.items c.write_bounds.new.rows (search rules) in
+    let n : length c.deref_mut.result.now ≡ vec_len t.items = search rules in
     record {
       cores = refl;
       len = refl;
-      tasks = ap tasks e ∙ c.write-bounds.ensures.tasks ∙ ap tasks c.deref-mut.ensures.value;
-      lengths = ap lengths e ∙ c.write-bounds.ensures.lengths ∙ ap lengths c.deref-mut.ensures.value;
-      bounds = ap bounds e ∙ c.write-bounds.ensures.bounds ∙ ap (λ k. take k c.args.found.now) n;
+      tasks = ap tasks e ∙ c.write_bounds.ensures.tasks ∙ ap tasks c.deref_mut.ensures.value;
+      lengths = ap lengths e ∙ c.write_bounds.ensures.lengths ∙ ap lengths c.deref_mut.ensures.value;
+      bounds = ap bounds e ∙ c.write_bounds.ensures.bounds ∙ ap (λ k. take k c.args.found.now) n;
     }

@@ -2,11 +2,11 @@ use Rattle.std.proofs.Common.{◌≡◌, suc, ◌-◌, ◌++◌, length, take, d
 use Rattle.std.proofs.lemmas.List.{length-map}
 use Rattle.planner.specs.Rows.{tasks}
 use Rattle.planner.specs.Tables.{opened}
-use Rattle.planner.proofs.OnRows.{fresh-removed, within-removed, within-as, tasks-removed}
+use Rattle.planner.proofs.OnRows.{fresh_removed, within_removed, within_as, tasks_removed}
 use Rattle.planner.proofs.tables.rows.Rows.take_out.Goals as goal
 
-pub invariant-of-self : goal.invariant-of-self
-invariant-of-self c =
+pub invariant_of-self : goal.invariant_of-self
+invariant_of-self c =
     let s = c.args.self.now in
     let xs = s.items.items in
     let i = c.args.number - 1 in
@@ -19,7 +19,7 @@ invariant-of-self c =
           (
             omega (arith, w.capacity),
             (
-              within-as _ _ (ap tasks w.items ∙ tasks-removed xs i (suc i)) (within-removed (tasks xs) i (suc i) s.limits),
+              within_as _ _ (ap tasks w.items ∙ tasks_removed xs i (suc i)) (within_removed (tasks xs) i (suc i) s.limits),
               tt,
             ),
           ),
@@ -35,8 +35,8 @@ returns c =
     let high : suc (n - 1) ≡ n = omega (arith, c.requires.0) in
     let e = c.remove.ensures.items in
     record {
-      keeps = ap (opened s.cores) (ap tasks c.remove.ensures.items ∙ tasks-removed xs (n - 1) (suc (n - 1)) ∙ ap (λ m. take (n - 1) (tasks xs) ++ drop m (tasks xs)) high);
-      fresh = fresh-removed xs _ (n - 1) (suc (n - 1)) e;
+      keeps = ap (opened s.cores) (ap tasks c.remove.ensures.items ∙ tasks_removed xs (n - 1) (suc (n - 1)) ∙ ap (λ m. take (n - 1) (tasks xs) ++ drop m (tasks xs)) high);
+      fresh = fresh_removed xs _ (n - 1) (suc (n - 1)) e;
     }
 
 pub remove-requires : goal.remove-requires

@@ -1,15 +1,15 @@
 use Rattle.std.proofs.Common.{◌≡◌, vec_items, vec_len, ◌∙◌, arith}
 use Rattle.planner.specs.Tables.{opened}
-use Rattle.planner.proofs.OnRows.{fresh-written}
-use Rattle.planner.proofs.OnWrites.{take-replicate}
+use Rattle.planner.proofs.OnRows.{fresh_written}
+use Rattle.planner.proofs.OnWrites.{take_replicate}
 use Rattle.planner.proofs.tables.rows.Rows.unset.Goals as goal
 
 pub returns : goal.returns
 returns c =
     let s = c.args.self.now in
-    let new = c.set-lengths.new.self in
-    let w = c.set-lengths.ensures in
+    let new = c.set_lengths.new.self in
+    let w = c.set_lengths.ensures in
     record {
       keeps = (λ i. opened (w.cores i) (w.tasks i));
-      fresh = fresh-written (vec_items new.items) (vec_len s.items) (omega (arith, w.len, new.items.ok.0)) (w.lengths ∙ take-replicate (vec_len s.items) 32 1 s.few) w.bounds;
+      fresh = fresh_written (vec_items new.items) (vec_len s.items) (omega (arith, w.len, new.items.ok.0)) (w.lengths ∙ take_replicate (vec_len s.items) 32 1 s.few) w.bounds;
     }
