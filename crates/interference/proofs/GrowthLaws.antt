@@ -1,12 +1,12 @@
 -- From laws of one change each: the sum does not fall when all that may grow does so together.
-use Rattle.std.proofs.Common.{◌≡◌, ℕ, ◌+◌, ◌<◌, ◌≤◌, List, [], ◌∷◌, ◌++◌, length, get_or, set, sym, refl, ap, ◌∙◌, subst, arith, length-append}
-use Rattle.std.specs.List.{AllZip, AllByRecursion as All}
+use Rattle.std.proofs.Common.{◌≡◌, ℕ, ◌<◌, ◌≤◌, List, [], ◌∷◌, ◌++◌, length, set, sym, refl, ap, ◌∙◌, subst, arith, length-append}
+use Rattle.std.specs.List.{AllByRecursion as All}
 use Rattle.std.proofs.lemmas.List.Elements.{length_all_zip}
 use Rattle.std.proofs.ByRecursion.{All-get_or, All-set}
 use Rattle.std.proofs.lemmas.List.{get_or_at, set_at}
 use Rattle.interference.specs.declared.rival.Rival.{Rival}
-use Rattle.interference.specs.Questions.{Query, RivalWithinLimits, RivalsWithinLimits, Valid, nobody, rival_at, posed, with_window, with_upper, with_lower, with_finish, with_cost, upper_finishing, lower_finishing, lower_costing}
-use Rattle.interference.specs.Laws.{Lawful, NoEarlier, NoSmaller, Grown, GrowsTogether}
+use Rattle.interference.specs.Questions.{Query, RivalWithinLimits, RivalsWithinLimits, Valid, nobody, rival_at, posed, with_window, with_upper, with_lower, with_finish, with_cost}
+use Rattle.interference.specs.Laws.{Lawful, NoEarlier, NoSmaller, GrowsTogether}
 use Rattle.interference.specs.ListLaws.{one_by_one}
 use Rattle.interference.specs.FullLaws.{within}
 

@@ -1,12 +1,11 @@
 -- The laws of the limited sum.
-use Rattle.std.specs.Prelude.{◌≡◌, ℕ, ◌+◌, ◌-◌, ◌*◌, ◌<◌, ◌≤◌, length, sum_by, slice_set}
+use Rattle.std.specs.Prelude.{◌≡◌, ℕ, ◌+◌, ◌-◌, ◌<◌, ◌≤◌, length, sum_by, slice_set}
 use Rattle.std.proofs.Common.{arith}
 use Rattle.std.proofs.lemmas.Nat.{mul-le}
-use Rattle.interference.specs.declared.rival.Rival.{Rival}
 use Rattle.interference.specs.Questions.{Query, RivalWithinLimits, Valid, nobody, rival_at, with_window, with_finish, upper_finishing}
 use Rattle.interference.specs.Shares.{carry_in_share, plain_share, share_cap}
 use Rattle.interference.specs.Sums.{carried, limited_sum}
-use Rattle.interference.specs.Laws.{Lawful, Steady, alone}
+use Rattle.interference.specs.Laws.{Lawful}
 use Rattle.interference.specs.ShareLaws.{carry_window, carry_finish, plain_window, plain_carry}
 use Rattle.interference.specs.ListLaws.{each_all, each_set}
 use Rattle.interference.specs.FullLaws.{within, carries_mono, carries_bounded, finish_set, lower_cost_set}

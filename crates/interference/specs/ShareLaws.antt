@@ -1,9 +1,9 @@
 -- How the shares of one rival grow.
-use Rattle.std.specs.Prelude.{◌≡◌, ℕ, ◌+◌, ◌-◌, ◌<◌, ◌≤◌, min}
+use Rattle.std.specs.Prelude.{ℕ, ◌+◌, ◌-◌, ◌≤◌}
 use Rattle.std.proofs.Common.{arith}
 use Rattle.interference.specs.declared.rival.Rival.{Rival}
 use Rattle.interference.specs.Questions.{Query, RivalWithinLimits, TimesWithinLimits, with_window, with_finish, with_cost, moved}
-use Rattle.interference.specs.Shares.{workload, carry_in_share, plain_share, share_cap}
+use Rattle.interference.specs.Shares.{carry_in_share, plain_share, share_cap}
 use Rattle.interference.specs.WorkloadLaws.{capped_mono, workload_costlier}
 
 pub carry_window : (q : Query) (l : ℕ) → q.window ≤ l → (r : Rival) → RivalWithinLimits r → carry_in_share q r ≤ carry_in_share (with_window q l) r

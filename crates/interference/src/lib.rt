@@ -1,4 +1,6 @@
 // What a task's rivals may take from its window: shares, questions, rules, layers, and the laws that every rule keeps.
+#![tactic(auto)]
+
 pub mod ask;
 pub mod choice;
 pub mod full;

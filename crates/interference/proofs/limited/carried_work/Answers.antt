@@ -1,4 +1,4 @@
-use Rattle.std.proofs.Common.{◌≡◌, ℕ, zero, suc, ◌+◌, ◌-◌, ◌*◌, ◌<◌, ◌≤◌, List, length, get_or, take, sym, ap, ◌∙◌, subst, add-one, arith, length-take, take_all}
+use Rattle.std.proofs.Common.{◌≡◌, ℕ, zero, suc, ◌+◌, ◌-◌, ◌≤◌, List, get_or, take, sym, ap, ◌∙◌, subst, add-one, arith, length-take, take_all}
 use Rattle.interference.specs.declared.rival.Rival.{Rival}
 use Rattle.interference.specs.Questions.{Query, TimesWithinLimits, nobody, rival_at}
 use Rattle.interference.specs.Sums.{carried, greatest_total, GreatestTotal}
