@@ -1,5 +1,5 @@
 -- Which tasks a list names.
-use Rattle.std.proofs.Common.{◌≡◌, ℕ, zero, suc, ◌+◌, ◌-◌, ◌<◌, ◌≤◌, Bool, true, false, cond, eqb, ◌⊎◌, List, [], ◌∷◌, ◌++◌, length, get_or, take, sym, refl, ap, ◌∙◌, subst, inl, inr, ⊎_elim, add-one, arith, length-append}
+use Rattle.std.proofs.Common.{◌≡◌, ℕ, zero, suc, ◌+◌, ◌<◌, ◌≤◌, Bool, true, false, cond, eqb, List, [], ◌∷◌, ◌++◌, length, get_or, take, sym, refl, ap, ◌∙◌, subst, ⊎_elim, add-one, arith, length-append}
 use Rattle.std.proofs.lemmas.List.{length_push, append-nil, take_more, take_all}
 use Rattle.std.proofs.lemmas.Bool.{both_ways, cond-true, cond-false, cases_Bool, eq-eqb, eqb-true, ne_eqb, false≢true, cases_order}
 use Rattle.analysis.specs.Rivals.{among, picked, under}

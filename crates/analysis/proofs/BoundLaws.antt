@@ -1,20 +1,18 @@
 -- The bound equations of a table rise with the bounds.
-use Rattle.std.proofs.Common.{◌≡◌, ℕ, zero, suc, ◌+◌, ◌-◌, ◌*◌, ◌/◌, ◌<◌, ◌≤◌, Bool, true, false, cond, not, ◌&&◌, eqb, List, [], ◌∷◌, ◌++◌, length, get_or, take, set, sym, refl, ap, ◌∙◌, subst, subst₂, arith}
-use Rattle.std.specs.List.{AllZip, AllByRecursion as All}
+use Rattle.std.proofs.Common.{◌≡◌, ℕ, ◌+◌, ◌-◌, ◌<◌, ◌≤◌, not, eqb, List, length, get_or, refl, ap, ◌∙◌, subst, arith}
 use Rattle.std.proofs.lemmas.Bool.{and_parts, not-true, eqb-false}
 use Rattle.interference.specs.declared.rival.Rival.{Rival}
 use Rattle.interference.specs.Laws.{NoEarlier, NoSmaller, Lawful}
 use Rattle.interference.proofs.GrowthLaws.{grows_together}
 use Rattle.interference.specs.Questions.{Query, Valid, RivalsWithinLimits, posed}
-use Rattle.analysis.specs.Rivals.{no_task, TaskWithinLimits, TasksWithinLimits, cost_of, among, above, below, upper_rival, lower_rival, uppers, lowers, finish_limits, limit_of, under}
-use Rattle.analysis.specs.Passing.{PassesOver}
+use Rattle.analysis.specs.Rivals.{TasksWithinLimits, cost_of, among, above, below, upper_rival, lower_rival, uppers, lowers, limit_of, under}
 use Rattle.analysis.specs.Plans.{IsChoice, IsOrder}
-use Rattle.analysis.specs.Bounds.{response, next_bound, bound_of, response_of, BoundsWithin, Solution, LeastSolution, NoSolution}
-use Rattle.analysis.specs.Steps.{PlacesPass, Overrun, Rising}
+use Rattle.analysis.specs.Bounds.{next_bound, bound_of, response_of, BoundsWithin, Solution, LeastSolution, NoSolution}
+use Rattle.analysis.specs.Steps.{Overrun, Rising}
 use Rattle.analysis.specs.declared.task.Task.{Task}
-use Rattle.analysis.proofs.Among.{everyone, under_at}
+use Rattle.analysis.proofs.Among.{everyone}
 use Rattle.analysis.proofs.Picked.{each_picked}
-use Rattle.analysis.proofs.RivalLaws.{Late, question_valid, div_grows, limit_at}
+use Rattle.analysis.proofs.RivalLaws.{Late, question_valid, div_grows}
 
 -- within the finish_limits
 pub within_late : (ts : List Task) → TasksWithinLimits ts → (bs : List ℕ) → BoundsWithin (length ts) (cost_of ts) (limit_of ts) bs → Late ts bs

@@ -1,7 +1,7 @@
 -- What holds at each place of an order holds for each task.
-use Rattle.std.proofs.Common.{◌≡◌, ℕ, ◌+◌, ◌-◌, ◌<◌, ◌≤◌, List, length, get_or, take, Some, None, Option, sym, refl, ap, ◌∙◌, subst, subst₂, MatchOption}
+use Rattle.std.proofs.Common.{◌≡◌, ℕ, ◌<◌, ◌≤◌, List, length, get_or, take, Some, None, Option, sym, ap, ◌∙◌, subst, subst₂, MatchOption}
 use Rattle.analysis.specs.Rivals.{under}
-use Rattle.analysis.specs.Plans.{IsOrder, IsChoice, Test, ChoicePasses, LeastChoice, NoChoicePasses, FirstOrder}
+use Rattle.analysis.specs.Plans.{IsOrder, Test, ChoicePasses, LeastChoice, NoChoicePasses, FirstOrder}
 use Rattle.analysis.specs.Steps.{PlacesPass, LeastByPlace, InfeasibleByPlace, FirstByPlace}
 use Rattle.analysis.proofs.Among.{everyone, under_at}
 

@@ -1,9 +1,9 @@
 -- From the lowest place up, the first length that passes is the least of any choice that passes.
-use Rattle.std.proofs.Common.{◌≡◌, ℕ, zero, suc, ◌+◌, ◌-◌, ◌<◌, ◌≤◌, Bool, true, false, cond, ◌⊎◌, List, [], ◌∷◌, ◌++◌, length, get_or, take, set, sym, refl, ap, ◌∙◌, subst, subst₂, inl, inr, ⊎_elim, arith}
+use Rattle.std.proofs.Common.{◌≡◌, ℕ, ◌+◌, ◌<◌, ◌≤◌, false, List, [], ◌∷◌, ◌++◌, length, get_or, take, set, sym, refl, ap, ◌∙◌, subst, subst₂, ⊎_elim, arith}
 use Rattle.std.proofs.lemmas.List.{take_at, take_all, take-take, get_or-take, get_or_append_left, get_or_at, take-append-le, length_push, length-take-le, get_or-set_same, get_or-set_other}
 use Rattle.std.proofs.lemmas.Bool.{cases_eq, cases_lt}
 use Rattle.analysis.specs.Rivals.{among}
-use Rattle.analysis.specs.Plans.{Named, IsChoice, Test}
+use Rattle.analysis.specs.Plans.{IsChoice, Test}
 use Rattle.analysis.specs.Steps.{PlacesPass, LeastByPlace, InfeasibleByPlace, Greedy}
 use Rattle.analysis.proofs.Among.{among_none}
 

@@ -1,9 +1,9 @@
 -- What each step of the search for the first order keeps, over the arrays that hold the order and the lengths.
-use Rattle.std.proofs.Common.{◌≡◌, ℕ, ◌+◌, ◌-◌, ◌<◌, ◌≤◌, Bool, true, false, List, [], ◌∷◌, ◌++◌, length, get_or, take, set, sym, refl, ap, ◌∙◌, subst, arith}
+use Rattle.std.proofs.Common.{◌≡◌, ℕ, ◌+◌, ◌-◌, ◌<◌, ◌≤◌, false, List, length, get_or, take, set, sym, refl, ◌∙◌, subst, arith}
 use Rattle.std.proofs.lemmas.List.{take_more_set, length-take-le}
 use Rattle.analysis.specs.Rivals.{among}
-use Rattle.analysis.specs.Plans.{Named, IsOrder, IsChoice, Test}
-use Rattle.analysis.specs.Steps.{PlacesPass, LeastByPlace, InfeasibleByPlace, FirstIs, Stuck, FirstByPlace, Greedy}
+use Rattle.analysis.specs.Plans.{IsOrder, IsChoice, Test}
+use Rattle.analysis.specs.Steps.{InfeasibleByPlace, FirstIs, Stuck, FirstByPlace, Greedy}
 use Rattle.analysis.proofs.Greedy.{greedy_more, greedy_none, greedy_back, greedy_least, infeasible_more}
 use Rattle.analysis.proofs.Search.{Searched, Gone, searched_place, searched_none, searched_back, searched_done, whole, before}
 use Rattle.analysis.proofs.RivalLaws.{part}

@@ -1,16 +1,14 @@
 -- The questions of a table's tasks are valid, and longer regions below do not help a task.
-use Rattle.std.proofs.Common.{◌≡◌, ℕ, zero, suc, ◌+◌, ◌-◌, ◌*◌, ◌/◌, ◌<◌, ◌≤◌, Bool, true, false, cond, not, ◌&&◌, eqb, ◌⊎◌, List, [], ◌∷◌, ◌++◌, map, length, get_or, take, set, replicate, sym, refl, ap, ◌∙◌, subst, subst₂, inl, inr, ⊎_elim, div-mul-le_self, arith}
-use Rattle.std.specs.List.{AllZip, AllByRecursion as All}
+use Rattle.std.proofs.Common.{◌≡◌, ℕ, ◌+◌, ◌-◌, ◌/◌, ◌<◌, ◌≤◌, true, false, not, eqb, List, length, get_or, take, replicate, refl, subst, div-mul-le_self, arith}
 use Rattle.std.proofs.lemmas.Nat.{le-div}
 use Rattle.std.proofs.lemmas.List.{get_or-map, get_or-replicate}
 use Rattle.std.proofs.ByRecursion.{All-get_or}
 use Rattle.std.proofs.lemmas.Bool.{both_ways, and_parts, and_left, not-true, not_from_true, eq-eqb}
-use Rattle.interference.specs.declared.rival.Rival.{Rival}
 use Rattle.interference.specs.Laws.{NoEarlier, NoSmaller, Lawful}
 use Rattle.interference.proofs.GrowthLaws.{grows_together}
 use Rattle.interference.specs.Questions.{Query, RivalWithinLimits, RivalsWithinLimits, Valid, nobody, posed}
-use Rattle.analysis.specs.Rivals.{no_task, TaskWithinLimits, TasksWithinLimits, finish_limits, cost_of, among, above, below, picked, upper_rival, lower_rival, uppers, lowers}
-use Rattle.analysis.specs.Passing.{asked, Meets, PassesOver}
+use Rattle.analysis.specs.Rivals.{no_task, TasksWithinLimits, finish_limits, cost_of, among, above, below, upper_rival, lower_rival, uppers, lowers}
+use Rattle.analysis.specs.Passing.{asked, PassesOver}
 use Rattle.analysis.specs.Plans.{IsChoice}
 use Rattle.analysis.specs.declared.task.Task.{Task}
 use Rattle.analysis.proofs.Among.{among_place}

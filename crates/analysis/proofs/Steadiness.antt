@@ -1,5 +1,5 @@
 -- Under a steady rule a longer region passes where a shorter one does.
-use Rattle.std.proofs.Common.{◌≡◌, ℕ, ◌+◌, ◌-◌, ◌/◌, ◌<◌, ◌≤◌, List, length, sym, refl, ap, ◌∙◌, subst, arith}
+use Rattle.std.proofs.Common.{◌≡◌, ℕ, ◌+◌, ◌-◌, ◌≤◌, List, length, sym, subst, arith}
 use Rattle.interference.specs.declared.rival.Rival.{Rival}
 use Rattle.interference.specs.Laws.{Steady}
 use Rattle.interference.specs.Questions.{Query, Valid, RivalsWithinLimits, posed, moved}

@@ -1,6 +1,6 @@
 -- The sums of the two bottom rules over a task's rivals, written over tasks.
-use Rattle.std.proofs.Common.{◌≡◌, ℕ, zero, suc, ◌+◌, ◌-◌, ◌/◌, ◌<◌, ◌≤◌, max, Bool, true, false, cond, List, [], ◌∷◌, ◌++◌, map, length, get_or, MatchBool, sum_by, sym, refl, ap, ◌∙◌, subst, arith}
-use Rattle.std.proofs.lemmas.List.{map-append, append-nil}
+use Rattle.std.proofs.Common.{◌≡◌, ℕ, zero, suc, ◌+◌, ◌-◌, ◌/◌, ◌<◌, ◌≤◌, Bool, true, false, cond, List, [], ◌∷◌, ◌++◌, map, length, get_or, MatchBool, sum_by, sym, refl, ap, ◌∙◌, subst, arith}
+use Rattle.std.proofs.lemmas.List.{map-append}
 use Rattle.std.proofs.lemmas.List.Sums.{sum_by-append, sum_by-cons}
 use Rattle.interference.specs.declared.rival.Rival.{Rival}
 use Rattle.interference.specs.Questions.{Query, posed}
@@ -9,10 +9,10 @@ use Rattle.interference.specs.Sums.{full_sum, limited_sum, greatest_total, carri
 use Rattle.interference.specs.Mixed.{top}
 use Rattle.interference.specs.Greatest.{greatest_top}
 use Rattle.analysis.specs.declared.task.Task.{Task}
-use Rattle.analysis.specs.Rivals.{no_task, cost_of, limit_of, finish_limits, under, above, below, picked, rival_of, upper_rival, lower_rival, uppers, lowers}
+use Rattle.analysis.specs.Rivals.{no_task, cost_of, limit_of, finish_limits, under, picked, rival_of, upper_rival, lower_rival, uppers, lowers}
 use Rattle.analysis.specs.Passing.{Passes}
 use Rattle.analysis.specs.Bounds.{Solution}
-use Rattle.analysis.specs.FourTests.{higher, lower, over, higher_carried, higher_plain, lower_carried, full_interference, limited_interference, before_region, start_limit, DeadlineAnalysis, LimitedDeadlineAnalysis, ResponseTimeAnalysis, LimitedResponseTimeAnalysis, ResponseTime, Equivalent}
+use Rattle.analysis.specs.FourTests.{higher, lower, over, full_interference, limited_interference, before_region, start_limit, DeadlineAnalysis, LimitedDeadlineAnalysis, ResponseTimeAnalysis, LimitedResponseTimeAnalysis, ResponseTime, Equivalent}
 use Rattle.analysis.proofs.RivalLaws.{limit_at}
 
 sum_cond : {X : Type 0} (f : X → ℕ) (b : Bool) (x : X) → sum_by f (cond b (x ∷ []) []) ≡ cond b (f x) 0

@@ -1,5 +1,5 @@
 -- When a task passes. The sum of a rule is a function of the question alone.
-use Rattle.std.specs.Prelude.{ℕ, ◌+◌, ◌-◌, ◌/◌, ◌≤◌, List, length, slice_index, slice_index_or}
+use Rattle.std.specs.Prelude.{ℕ, ◌+◌, ◌-◌, ◌/◌, ◌≤◌, List, slice_index, slice_index_or}
 use Rattle.interference.specs.declared.rival.Rival.{Rival}
 use Rattle.interference.specs.Questions.{Query, posed}
 use Rattle.analysis.specs.declared.task.Task.{Task}

@@ -1,7 +1,7 @@
 -- Tasks, who stands below whom, and what the other tasks are to one of them.
 -- Tasks are numbered from 0 here, by their place in the list of tasks. An order is a list of task numbers from the
 -- lowest place up. Lengths, finishes and bounds are lists by task number.
-use Rattle.std.specs.Prelude.{ℕ, zero, suc, ◌+◌, ◌-◌, ◌<◌, ◌≤◌, Bool, true, false, cond, not, ◌&&◌, List, [], ◌∷◌, ◌++◌, map, length, ◌==◌, slice_index, slice_index_or}
+use Rattle.std.specs.Prelude.{ℕ, zero, suc, ◌-◌, ◌<◌, ◌≤◌, Bool, true, false, cond, not, ◌&&◌, List, [], ◌∷◌, ◌++◌, map, length, ◌==◌, slice_index, slice_index_or}
 use Rattle.interference.specs.declared.rival.Rival.{Rival}
 use Rattle.analysis.specs.declared.task.Task.{Task}
 

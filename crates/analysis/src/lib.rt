@@ -1,4 +1,6 @@
 // Tasks in an order under a rule, on plain data: who passes, and the searches for lengths, a plan and bounds.
+#![tactic(auto)]
+
 pub mod bounds;
 pub mod checks;
 mod finder;

@@ -1,4 +1,4 @@
-use Rattle.std.proofs.Common.{ℕ, ◌≤◌, arith, rules}
+use Rattle.std.proofs.Common.{arith}
 use Rattle.analysis.specs.Bounds.{next_bound}
 use Rattle.analysis.proofs.BoundLaws.{next_bound_grows}
 use Rattle.analysis.proofs.Fixpoint.{kept_more, kept_none}

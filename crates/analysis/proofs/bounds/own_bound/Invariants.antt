@@ -1,4 +1,4 @@
-use Rattle.std.proofs.Common.{ℕ, ◌+◌, ◌-◌, ◌<◌, ◌≤◌}
+use Rattle.std.proofs.Common.{ℕ, ◌-◌, ◌≤◌}
 use Rattle.analysis.specs.Bounds.{next_bound}
 use Rattle.analysis.proofs.bounds.own_bound.Given as goal
 

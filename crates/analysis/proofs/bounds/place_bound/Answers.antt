@@ -3,7 +3,6 @@ use Rattle.analysis.specs.Rivals.{finish_limit}
 use Rattle.analysis.specs.Bounds.{next_bound}
 use Rattle.analysis.specs.Steps.{FirstKept}
 use Rattle.analysis.proofs.Stood.{carried_over}
-use Rattle.analysis.proofs.bounds.place_bound.Given as given
 use Rattle.analysis.proofs.bounds.place_bound.Goals as goal
 
 pub stand-place-requires : goal.stand-place-requires

@@ -1,14 +1,13 @@
-use Rattle.std.proofs.Common.{◌≡◌, ℕ, ◌+◌, ◌-◌, ◌<◌, ◌≤◌, List, length, get_or, take, set, MatchBool, sym, refl, ap, ◌∙◌, subst, subst₂, arith, rules}
+use Rattle.std.proofs.Common.{◌≡◌, ℕ, ◌-◌, ◌<◌, ◌≤◌, List, length, get_or, take, set, MatchBool, sym, refl, ap, ◌∙◌, subst, arith, rules}
 use Rattle.std.proofs.lemmas.List.{get_or-set_same, set-get_or}
-use Rattle.analysis.specs.Rivals.{no_task, uppers, lowers, cost_of, limit_of, under}
+use Rattle.analysis.specs.Rivals.{uppers, lowers, cost_of, limit_of, under}
 use Rattle.analysis.specs.Bounds.{next_bound, bound_of}
-use Rattle.analysis.specs.Steps.{FirstKept, LeastKept, total, Rising, Padded}
+use Rattle.analysis.specs.Steps.{LeastKept, total, Rising, Padded}
 use Rattle.analysis.proofs.RivalLaws.{part}
 use Rattle.analysis.proofs.Among.{under_at}
 use Rattle.analysis.proofs.BoundLaws.{bound_up}
 use Rattle.analysis.proofs.Fixpoint.{rising_none, rising_more, rises_to, set_rises, total_lt, when_map, ne_lt}
 use Rattle.analysis.proofs.Padding.{padded_set}
-use Rattle.analysis.proofs.bounds.raise.Given as given
 use Rattle.analysis.proofs.bounds.raise.Goals as goal
 
 pub place_bound-requires : goal.place_bound-requires

@@ -1,11 +1,10 @@
-use Rattle.std.proofs.Common.{◌≡◌, ℕ, ◌<◌, length, get_or, arith, rules}
+use Rattle.std.proofs.Common.{◌<◌, length, get_or, arith, rules}
 use Rattle.analysis.specs.Rivals.{cost_of, limit_of}
 use Rattle.analysis.specs.Bounds.{bound_of, LeastSolution}
 use Rattle.analysis.specs.Steps.{total}
 use Rattle.analysis.proofs.Fixpoint.{rising_start, total_le, when_yes, when_no}
 use Rattle.analysis.proofs.BoundLaws.{bound_up, bound_floor, overrun_unsolved}
 use Rattle.analysis.proofs.Padding.{padded_new}
-use Rattle.analysis.proofs.bounds.seek_bounds.Given as given
 use Rattle.analysis.proofs.bounds.seek_bounds.Goals as goal
 
 pub fill_costs-requires : goal.fill_costs-requires

@@ -1,6 +1,6 @@
 use Rattle.std.proofs.Common.{ℕ, List, length, sym, ap, ◌∙◌, subst, arith}
 use Rattle.std.proofs.lemmas.List.{length-map}
-use Rattle.analysis.specs.Rivals.{finish_limit, finish_limits, uppers, lowers, cost_of, limit_of}
+use Rattle.analysis.specs.Rivals.{finish_limit, uppers, lowers, cost_of, limit_of}
 use Rattle.analysis.specs.Passing.{Meets}
 use Rattle.analysis.specs.Bounds.{BoundsWithin}
 use Rattle.analysis.specs.Steps.{FirstTo}

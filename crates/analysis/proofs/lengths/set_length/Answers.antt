@@ -1,4 +1,4 @@
-use Rattle.std.proofs.Common.{◌≡◌, ℕ, ◌+◌, ◌<◌, length, get_or, take, set, sym, refl, subst, arith, rules}
+use Rattle.std.proofs.Common.{◌+◌, ◌<◌, length, get_or, take, set, sym, refl, subst, arith, rules}
 use Rattle.std.proofs.lemmas.List.{take_more}
 use Rattle.analysis.specs.Rivals.{cost_of}
 use Rattle.analysis.specs.Passing.{PassesOver}

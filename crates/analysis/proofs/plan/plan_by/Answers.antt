@@ -1,4 +1,4 @@
-use Rattle.std.proofs.Common.{◌≡◌, ℕ, ◌+◌, ◌-◌, ◌<◌, ◌≤◌, List, [], ◌∷◌, ◌++◌, length, get_or, take, set, replicate, sym, refl, ap, ◌∙◌, subst, arith, rules}
+use Rattle.std.proofs.Common.{◌-◌, ◌<◌, length, get_or, take, replicate, refl, subst, arith}
 use Rattle.std.proofs.lemmas.List.{length-set, length-take-le}
 use Rattle.analysis.specs.Rivals.{cost_of}
 use Rattle.analysis.specs.Passing.{PassesOver}

@@ -1,4 +1,4 @@
-use Rattle.std.proofs.Common.{◌≡◌, ◌+◌, take, set, sym, ◌∙◌, subst, arith, rules}
+use Rattle.std.proofs.Common.{◌≡◌, ◌+◌, take, set, sym, ◌∙◌, subst, arith}
 use Rattle.interference.specs.declared.rival.Rival.{Rival}
 use Rattle.analysis.specs.Rivals.{picked, below, lower_rival}
 use Rattle.analysis.proofs.Picked.{filled_yes, filled_no}

@@ -1,4 +1,4 @@
-use Rattle.std.proofs.Common.{[], ◌∷◌, ◌++◌, length, get_or, take, sym, ap, ◌∙◌, arith}
+use Rattle.std.proofs.Common.{[], ◌∷◌, ◌++◌, get_or, take, sym, ap, ◌∙◌, arith}
 use Rattle.std.proofs.lemmas.List.{length-set, take_more_set, map_more, take_all}
 use Rattle.analysis.specs.Rivals.{finish_limit, finish_limits, no_task}
 use Rattle.analysis.proofs.rivals.fill_limits.Goals as goal

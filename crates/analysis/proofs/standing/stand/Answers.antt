@@ -1,4 +1,4 @@
-use Rattle.std.proofs.Common.{◌≡◌, ℕ, ◌+◌, ◌-◌, ◌≤◌, List, length, take, sym, ap, ◌∙◌, subst, subst₂, arith, rules}
+use Rattle.std.proofs.Common.{◌≡◌, ◌+◌, ◌-◌, ◌≤◌, List, length, take, sym, subst, subst₂}
 use Rattle.interference.specs.declared.rival.Rival.{Rival}
 use Rattle.interference.specs.Questions.{RivalsWithinLimits}
 use Rattle.analysis.specs.Rivals.{uppers, lowers}
@@ -19,22 +19,12 @@ invariant_of-result c =
     let us : take (c.fill_upper-used.result - 0) c.fill_upper-used.new.out ≡ uppers ts a.late.now a.low.now a.k =
     part c.fill_upper-used.result c.fill_upper-used.new.out c.fill_upper-used.ensures.filled in
     let ls : take (c.fill_lower-taken.result - 0) c.fill_lower-taken.new.out ≡ lowers ts a.late.now a.lens.now a.low.now a.k =
-    part c.fill_lower-taken.result c.fill_lower-taken.new.out c.fill_lower-taken.ensures.filled in (
-      s.some,
-      (
-        s.most,
-        (
-          s.limits a.k p.here,
-          (
-            subst₂ (λ (x : List Rival) (y : List Rival). length x + length y ≤ 31) (sym us) (sym ls) (rivals_few ts s.limits s.few a.late.now late a.low.now a.k p.here a.lens.now p.choice),
-            (
-              subst (λ (x : List Rival). RivalsWithinLimits x) (sym us) (uppers_within ts s.limits s.few a.late.now late a.low.now a.k p.here),
-              (
-                subst (λ (x : List Rival). RivalsWithinLimits x) (sym ls) (lowers_within ts s.limits s.few a.late.now late a.low.now a.k p.here a.lens.now p.choice),
-                tt,
-              ),
-            ),
-          ),
-        ),
-      ),
-    )
+    part c.fill_lower-taken.result c.fill_lower-taken.new.out c.fill_lower-taken.ensures.filled in
+    record {
+      some = s.some;
+      most = s.most;
+      limits = s.limits a.k p.here;
+      few = subst₂ (λ (x : List Rival) (y : List Rival). length x + length y ≤ 31) (sym us) (sym ls) (rivals_few ts s.limits s.few a.late.now late a.low.now a.k p.here a.lens.now p.choice);
+      uppers = subst (λ (x : List Rival). RivalsWithinLimits x) (sym us) (uppers_within ts s.limits s.few a.late.now late a.low.now a.k p.here);
+      lowers = subst (λ (x : List Rival). RivalsWithinLimits x) (sym ls) (lowers_within ts s.limits s.few a.late.now late a.low.now a.k p.here a.lens.now p.choice);
+    }

@@ -1,4 +1,4 @@
-use Rattle.std.proofs.Common.{◌≡◌, ℕ, ◌≤◌, length, get_or, subst, arith, rules}
+use Rattle.std.proofs.Common.{◌≡◌, ◌≤◌, length, get_or, subst, arith}
 use Rattle.analysis.specs.Rivals.{cost_of, limit_of}
 use Rattle.analysis.specs.Bounds.{bound_of, BoundsWithin}
 use Rattle.analysis.proofs.Among.{everyone}

@@ -1,4 +1,4 @@
-use Rattle.std.proofs.Common.{◌≡◌, ℕ, ◌<◌, ◌≤◌, get_or}
+use Rattle.std.proofs.Common.{◌≡◌, ℕ, ◌<◌, get_or}
 use Rattle.analysis.specs.Bounds.{bound_of}
 use Rattle.analysis.proofs.verdict.is_solution.Given as goal
 
