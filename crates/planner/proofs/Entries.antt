@@ -1,9 +1,9 @@
 -- Lengths and bounds count by their entries for tasks alone.
-use Rattle.std.proofs.Common.{◌≡◌, ℕ, zero, suc, ◌+◌, ◌-◌, ◌/◌, ◌<◌, ◌≤◌, Bool, cond, List, [], ◌∷◌, ◌++◌, length, get_or, take, sym, refl, ap, ◌∙◌, subst, arith}
+use Rattle.std.proofs.Common.{◌≡◌, ℕ, zero, suc, ◌-◌, ◌<◌, Bool, cond, List, [], ◌∷◌, ◌++◌, length, get_or, sym, refl, ap, ◌∙◌, subst, arith}
 use Rattle.interference.specs.declared.rival.Rival.{Rival}
 use Rattle.interference.specs.Questions.{Query}
 use Rattle.analysis.specs.declared.task.Task.{Task}
-use Rattle.analysis.specs.Rivals.{no_task, cost_of, finish_limits, under, above, below, picked, rival_of, upper_rival, lower_rival, uppers, lowers}
+use Rattle.analysis.specs.Rivals.{no_task, cost_of, finish_limits, under, above, below, picked, rival_of, upper_rival, lower_rival, uppers}
 use Rattle.analysis.specs.Passing.{Meets, PassesOver}
 use Rattle.analysis.specs.Plans.{LeastLengths, FirstPlan}
 use Rattle.analysis.specs.Bounds.{response, response_of, Solution, LeastSolution}

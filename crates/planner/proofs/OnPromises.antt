@@ -1,15 +1,15 @@
 -- Each call keeps the promises, so every run does.
-use Rattle.std.proofs.Common.{◌≡◌, ℕ, ◌<◌, ◌≤◌, Bool, true, false, ◌⊎◌, List, [], ◌∷◌, length, sym, refl, ap, ◌∙◌, subst, inl, inr, ⊎_elim, arith}
+use Rattle.std.proofs.Common.{◌≡◌, ℕ, ◌<◌, true, false, List, [], ◌∷◌, length, sym, refl, ap, ◌∙◌, subst, inl, inr, ⊎_elim, arith}
 use Rattle.interference.specs.Questions.{Query}
 use Rattle.analysis.specs.declared.task.Task.{Task}
 use Rattle.analysis.specs.Plans.{NoPlan}
 use Rattle.planner.specs.declared.replay.Report.{Report}
-use Rattle.planner.specs.Tables.{Open, Fixed, fixed}
-use Rattle.planner.specs.History.{Request, cores, enter, strike, amend, fix, order, stretch, seek_lengths, quick_lengths, seek_plan, quick_plan, seek_bounds, reopen, Setup, unfixed, fixed_by, Came, done, refused, not_applicable, State, still, joined, setup, of_setup, Refuses, Makes, Unfit, Follows, Marked, Turn}
+use Rattle.planner.specs.Tables.{Open, Fixed}
+use Rattle.planner.specs.History.{Request, cores, enter, strike, amend, fix, order, stretch, seek_lengths, quick_lengths, seek_plan, quick_plan, seek_bounds, reopen, Setup, unfixed, fixed_by, Came, done, refused, not_applicable, State, still, joined, setup, of_setup, Refuses, Makes, Marked, Turn}
 use Rattle.planner.specs.Calls.{PlanRefuses}
 use Rattle.planner.specs.Replaying.{came}
 use Rattle.planner.specs.Reporting.{Shows, Run}
-use Rattle.planner.specs.Promises.{Exactly, final, Passed, Bounded, AllPass, LengthsLeast, BoundsSolve, BoundsLeast, SetsLengths, SetupFollows, RefusedExactly, MarksTrue, NoneToFind, NoneFound, SetLeast, OfEach, Promises}
+use Rattle.planner.specs.Promises.{Exactly, final, Passed, Bounded, AllPass, LengthsLeast, BoundsSolve, BoundsLeast, SetsLengths, SetupFollows, RefusedExactly, MarksTrue, NoneFound, SetLeast, OfEach, Promises}
 use Rattle.planner.proofs.OneOutcome.{not_refused, made_fits, refused_fits, one_number, one_setup}
 
 clash_done : (k : ℕ) → done ≡ refused k → ⊥

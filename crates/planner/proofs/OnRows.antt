@@ -1,8 +1,8 @@
 -- Rows that are added, taken out or changed keep the limits of their tasks.
-use Rattle.std.proofs.Common.{◌≡◌, ℕ, suc, ◌-◌, ◌<◌, ◌≤◌, List, [], ◌∷◌, ◌++◌, length, get_or, take, drop, set, replicate, sym, refl, ap, ◌∙◌, subst, arith}
+use Rattle.std.proofs.Common.{◌≡◌, ℕ, ◌-◌, ◌<◌, List, [], ◌∷◌, ◌++◌, length, get_or, take, drop, set, replicate, sym, ap, ◌∙◌, subst, arith}
 use Rattle.std.specs.List.{AllByRecursion as All}
 use Rattle.std.proofs.ByRecursion.{All-get_or, All-from_get_or, All-append, All-push, All-set, All-take, All-drop}
-use Rattle.std.proofs.lemmas.List.{map-append, take-map, drop-map, map-set, map_push, get_or-map, get_or-replicate, length-map}
+use Rattle.std.proofs.lemmas.List.{map-append, take-map, drop-map, map_push, get_or-map, get_or-replicate}
 use Rattle.analysis.specs.declared.task.Task.{Task}
 use Rattle.analysis.specs.Rivals.{TaskWithinLimits, TasksWithinLimits, no_task}
 use Rattle.planner.specs.declared.tables.rows.Row.{Row}

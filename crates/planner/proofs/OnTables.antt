@@ -5,7 +5,7 @@ use Rattle.std.proofs.lemmas.Bool.{cases_eq}
 use Rattle.analysis.specs.declared.task.Task.{Task}
 use Rattle.analysis.specs.Rivals.{cost_of}
 use Rattle.analysis.specs.Plans.{Named, IsChoice}
-use Rattle.planner.specs.Tables.{Fixed, fixed}
+use Rattle.planner.specs.Tables.{fixed}
 
 pub choice_as : (ts us : List Task) (ls ks : List ℕ) (n m : ℕ) → us ≡ ts → ks ≡ ls → m ≡ n → IsChoice (cost_of ts) n ls → IsChoice (cost_of us) m ks
 choice_as ts us ls ks n m a b c h =

@@ -1,5 +1,5 @@
 -- What the methods promise, as one turn of a history.
-use Rattle.std.proofs.Common.{◌≡◌, ℕ, Bool, true, false, List, length, replicate, Ok, Err, Result, sym, refl, ap, subst}
+use Rattle.std.proofs.Common.{◌≡◌, ℕ, Bool, true, false, length, replicate, Ok, Err, Result, sym, refl, ap, subst}
 use Rattle.interference.specs.Questions.{Query}
 use Rattle.analysis.specs.Bounds.{LeastSolution}
 use Rattle.planner.specs.declared.refusal.Refusal.{Refusal}
@@ -8,7 +8,7 @@ use Rattle.planner.specs.declared.replay.FixedCall.TheVariants.{Order, Stretch, 
 use Rattle.planner.specs.declared.replay.QuickCall.{QuickCall}
 use Rattle.planner.specs.declared.replay.QuickCall.TheVariants.{Lengths, Plan}
 use Rattle.planner.specs.Tables.{Fixed, fixed}
-use Rattle.planner.specs.History.{State, joined, setup, Turn}
+use Rattle.planner.specs.History.{joined, setup, Turn}
 use Rattle.planner.specs.Replaying.{fixed_request, quick_request, answered, FixedDoes, QuickDoes}
 
 -- bounds 0, and these marks

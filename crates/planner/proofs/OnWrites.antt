@@ -1,7 +1,6 @@
 -- Rows that are written one after the other.
-use Rattle.std.proofs.Common.{◌≡◌, ℕ, zero, suc, ◌+◌, ◌<◌, ◌≤◌, List, [], ◌∷◌, ◌++◌, map, length, get_or, take, set, replicate, sym, refl, ap, ◌∙◌, add-one, arith}
-use Rattle.std.proofs.lemmas.List.{take_more, take_more_set, map_push, map_more, map-set, set-get_or, get_or-map, take_all}
-use Rattle.analysis.specs.declared.task.Task.{Task}
+use Rattle.std.proofs.Common.{◌≡◌, ℕ, zero, suc, ◌+◌, ◌<◌, ◌≤◌, List, [], ◌∷◌, ◌++◌, map, length, get_or, take, set, replicate, sym, refl, ap, ◌∙◌, arith}
+use Rattle.std.proofs.lemmas.List.{take_more, take_more_set, map_push, map-set, set-get_or, get_or-map, take_all}
 use Rattle.analysis.specs.Rivals.{no_task}
 use Rattle.planner.specs.declared.tables.rows.Row.{Row}
 

@@ -1,12 +1,10 @@
 -- What comes of a call is one thing: carried out, refused by one number, or not applicable; and what it makes is one
 -- setup.
-use Rattle.std.proofs.Common.{◌≡◌, ℕ, ◌<◌, ◌≤◌, ◌⊎◌, List, [], ◌∷◌, length, sym, refl, ap, ◌∙◌, inl, inr, ⊎_elim, arith}
+use Rattle.std.proofs.Common.{◌≡◌, ℕ, List, length, sym, ap, ◌∙◌, ⊎_elim, arith}
 use Rattle.interference.specs.Questions.{Query}
 use Rattle.analysis.specs.declared.task.Task.{Task}
 use Rattle.analysis.specs.Rivals.{cost_of}
 use Rattle.analysis.specs.Passing.{PassesOver}
-use Rattle.analysis.specs.Plans.{NoLengths}
-use Rattle.planner.specs.Tables.{Fixed}
 use Rattle.planner.specs.Calls.{LengthsRefuses, PlanRefuses}
 use Rattle.planner.specs.History.{Request, cores, enter, strike, amend, fix, order, stretch, seek_lengths, quick_lengths, seek_plan, quick_plan, seek_bounds, reopen, Setup, unfixed, fixed_by, of_setup, Refuses, GetsLengths, GetsPlan, Makes, Unfit}
 use Rattle.planner.proofs.OneAnswer.{one_choice, one_plan}

@@ -1,15 +1,12 @@
 -- What any sequence of calls may rely on. It is said over any type U of rules that a table can be fixed under, with
 -- what each means, and which of them take the quick searches.
-use Rattle.std.specs.Prelude.{◌≡◌, ℕ, ◌-◌, ◌<◌, ◌≤◌, Bool, true, false, ◌⊎◌, List, [], ◌∷◌, ◌++◌, length, take, drop, set, replicate, slice_set}
+use Rattle.std.specs.Prelude.{◌≡◌, ℕ, ◌-◌, ◌<◌, ◌≤◌, true, false, ◌⊎◌, List, [], ◌∷◌, ◌++◌, length, take, drop, replicate, slice_set}
 use Rattle.interference.specs.Questions.{Query}
 use Rattle.analysis.specs.declared.task.Task.{Task}
 use Rattle.analysis.specs.Rivals.{TaskWithinLimits}
-use Rattle.analysis.specs.Passing.{PassesOver}
-use Rattle.analysis.specs.Plans.{ChoicePasses, LeastLengths, NoLengths, FirstPlan, NoPlan}
-use Rattle.analysis.specs.Bounds.{Solution, LeastSolution, NoSolution}
-use Rattle.planner.specs.declared.refusal.Refusal.{Refusal}
-use Rattle.planner.specs.Refusals.{number}
-use Rattle.planner.specs.Tables.{Open, opened, Fixed, fixed, downward, new_fixed}
+use Rattle.analysis.specs.Plans.{LeastLengths, FirstPlan}
+use Rattle.analysis.specs.Bounds.{Solution, LeastSolution}
+use Rattle.planner.specs.Tables.{Open, opened, Fixed, fixed, downward}
 use Rattle.planner.specs.Calls.{CoresWithinLimits, HasTask, task_numbered, with_cost, upward, NamesEach, LengthFits, CoresRefuses, EnterRefuses, StrikeRefuses, AmendRefuses, OrderRefuses, StretchRefuses, LengthsRefuses, PlanRefuses, BoundsRefuses}
 
 -- a call with its input

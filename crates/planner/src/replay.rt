@@ -2,8 +2,6 @@ use crate::fixed::FixedTable;
 use crate::open::OpenTable;
 use crate::refusal::Refusal;
 use analysis::task::Task;
-use interference::rule::Rule;
-use interference::steady::SteadyRule;
 
 mod reports;
 mod turns;
@@ -49,7 +47,7 @@ pub enum Call<R, S> {
 
 // A table of any kind.
 #[derive(Drop)]
-pub enum Table<R: Rule, S: SteadyRule> {
+pub enum Table<R, S> {
     Open(OpenTable),
     Fixed(FixedTable<R>),
     Steady(FixedTable<S>),

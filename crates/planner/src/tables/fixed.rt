@@ -4,7 +4,6 @@ ghost use Rattle.analysis.specs.Plans.{Named, IsChoice};
 ghost use Rattle.planner.specs.Rows.{tasks, lengths};
 
 use crate::rows::Rows;
-use interference::rule::Rule;
 
 mod calls;
 mod plans;
@@ -15,7 +14,7 @@ mod seeks;
 // A table joined with a rule: an order from the lowest place up, by task index, a length and a bound for each task,
 // and two marks.
 #[derive(Drop)]
-pub struct FixedTable<R: Rule> {
+pub struct FixedTable<R> {
     pub(in crate::tables) rows: Rows,
     pub(in crate::tables) order: Vec<usize>,
     pub(in crate::tables) rule: R,

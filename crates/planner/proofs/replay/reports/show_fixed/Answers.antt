@@ -30,6 +30,7 @@ returns g c =
         cores = c.core_count.ensures;
         count = count;
         tasks = c.tasks_of.ensures ∙ r.ensures.tasks;
+        order = ap (λ k. take k c.read_order.result) count ∙ c.read_order.ensures;
         places = ap (λ k. take k s.result.1) count ∙ s.ensures.places;
         lengths = c.lengths_of.ensures ∙ r.ensures.lengths;
         bounds = c.bounds_of.ensures ∙ r.ensures.bounds;

@@ -1,7 +1,7 @@
-use Rattle.std.proofs.Common.{◌≡◌, length, take, sym, ap, ◌∙◌, arith}
+use Rattle.std.proofs.Common.{length, take, ap, ◌∙◌}
 use Rattle.std.proofs.lemmas.List.{take_at}
 use Rattle.planner.specs.Tables.{holds}
-use Rattle.planner.specs.Reading.{standing, over}
+use Rattle.planner.specs.Reading.{standing}
 use Rattle.planner.proofs.OnLists.{length_standing}
 use Rattle.planner.proofs.replay.reports.standing_places.Goals as goal
 

@@ -1,4 +1,4 @@
-use Rattle.std.proofs.Common.{◌≡◌, ℕ, ◌+◌, ◌≤◌, List, map, length, take, vec_items, sym, refl, ap, ◌∙◌, subst, arith, length-drop}
+use Rattle.std.proofs.Common.{◌≡◌, ◌+◌, List, map, length, take, vec_items, sym, refl, ap, ◌∙◌, subst, arith, length-drop}
 use Rattle.std.specs.Vec.Iter.{into_iter_items}
 use Rattle.planner.specs.declared.replay.Call.{Call}
 use Rattle.planner.specs.declared.replay.Report.{Report}

@@ -1,4 +1,4 @@
-use Rattle.std.proofs.Common.{◌≡◌, sym, ap, subst₂}
+use Rattle.std.proofs.Common.{sym, ap, subst₂}
 use Rattle.planner.specs.declared.replay.Table.{Table}
 use Rattle.planner.specs.declared.replay.Call.{Call}
 use Rattle.planner.specs.Tables.{holds}

@@ -1,4 +1,4 @@
-use Rattle.std.proofs.Common.{◌≡◌, ◌<◌, ◌≤◌, length, get_or, refl, ◌∙◌, arith}
+use Rattle.std.proofs.Common.{◌<◌, length, get_or, refl, ◌∙◌, arith}
 use Rattle.planner.specs.declared.tables.rows.Row.{Row}
 use Rattle.planner.proofs.OnWrites.{blank, part_kept, part_more, part_all}
 use Rattle.planner.proofs.tables.writing.write_bounds.Goals as goal

@@ -1,4 +1,4 @@
-use Rattle.std.proofs.Common.{◌≡◌, length, take}
+use Rattle.std.proofs.Common.{◌≡◌, take}
 use Rattle.planner.specs.Rows.{tasks, lengths, bounds}
 use Rattle.planner.proofs.tables.writing.write_bounds.Given as goal
 

@@ -1,7 +1,6 @@
-use Rattle.std.proofs.Common.{◌≡◌, ◌<◌, ◌≤◌, length, get_or, replicate, sym, refl, ap, ◌∙◌, arith}
-use Rattle.std.proofs.lemmas.List.{length-map, length-replicate, get_or-replicate, take_all}
+use Rattle.std.proofs.Common.{◌≡◌, ◌<◌, ◌≤◌, length, get_or, replicate, sym, refl, ◌∙◌, arith}
+use Rattle.std.proofs.lemmas.List.{length-replicate, get_or-replicate, take_all}
 use Rattle.planner.specs.declared.tables.rows.Row.{Row}
-use Rattle.planner.specs.Rows.{tasks}
 use Rattle.planner.proofs.OnWrites.{blank, part_kept, part_more, part_all}
 use Rattle.planner.proofs.tables.writing.write_lengths.Goals as goal
 

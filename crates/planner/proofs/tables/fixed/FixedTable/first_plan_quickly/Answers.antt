@@ -1,4 +1,4 @@
-use Rattle.std.proofs.Common.{◌≡◌, List, length, take, vec_len, ap, subst, arith, MatchOption}
+use Rattle.std.proofs.Common.{List, length, take, vec_len, ap, subst, arith, MatchOption}
 use Rattle.analysis.specs.declared.task.Task.{Task}
 use Rattle.analysis.specs.Plans.{FirstPlan, NoPlan}
 use Rattle.planner.specs.Rows.{tasks}

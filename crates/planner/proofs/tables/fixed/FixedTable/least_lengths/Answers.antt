@@ -1,4 +1,4 @@
-use Rattle.std.proofs.Common.{◌≡◌, ℕ, List, length, vec_items, vec_len, sym, ap, ◌∙◌, subst, subst₂, arith, MatchOption}
+use Rattle.std.proofs.Common.{ℕ, List, length, vec_items, vec_len, ap, subst₂, arith, MatchOption}
 use Rattle.std.proofs.lemmas.List.{length-map}
 use Rattle.analysis.specs.declared.task.Task.{Task}
 use Rattle.analysis.specs.Plans.{LeastLengths, NoLengths}

@@ -1,4 +1,4 @@
-use Rattle.std.proofs.Common.{◌≡◌, ℕ, ◌-◌, ◌<◌, ◌≤◌, false, List, length, take, set, replicate, vec_len, refl, ap, ◌∙◌, arith}
+use Rattle.std.proofs.Common.{◌≡◌, ℕ, ◌-◌, false, List, length, take, set, replicate, vec_len, refl, ap, ◌∙◌, arith}
 use Rattle.std.proofs.lemmas.List.{length-map}
 use Rattle.planner.specs.Rows.{tasks, lengths}
 use Rattle.planner.proofs.OnTables.{choice_as, named_as, fixed_as, choice_set}
@@ -17,20 +17,14 @@ invariant_of-self g c =
     let f = c.args.region in
     let w = c.set_lengths.ensures in
     let h = length-map xs (λ r. r.task) in
-    let lens = stored (vec_len s.rows.items) c.read_lengths-lens.result (lengths xs) _ i f w.lengths c.read_lengths-lens.ensures in (
-      omega (arith, w.len, s.whole),
-      (
-        s.roomy,
-        (
-          named_as _ _ _ _ refl w.len s.named,
-          (
-            choice_as (tasks xs) _ (set (lengths xs) i f) _ (vec_len s.rows.items) _ w.tasks lens w.len
-                (choice_set (tasks xs) (vec_len s.rows.items) (lengths xs) i f (omega (arith, c.requires.has, h, length-map xs (λ r. r.length))) c.requires.fits.0 c.requires.fits.1 s.choice),
-            tt,
-          ),
-        ),
-      ),
-    )
+    let lens = stored (vec_len s.rows.items) c.read_lengths-lens.result (lengths xs) _ i f w.lengths c.read_lengths-lens.ensures in
+    record {
+      whole = omega (arith, w.len, s.whole);
+      roomy = s.roomy;
+      named = named_as _ _ _ _ refl w.len s.named;
+      choice = choice_as (tasks xs) _ (set (lengths xs) i f) _ (vec_len s.rows.items) _ w.tasks lens w.len
+          (choice_set (tasks xs) (vec_len s.rows.items) (lengths xs) i f (omega (arith, c.requires.has, h, length-map xs (λ r. r.length))) c.requires.fits.0 c.requires.fits.1 s.choice);
+    }
 
 pub returns : goal.returns
 returns g c =

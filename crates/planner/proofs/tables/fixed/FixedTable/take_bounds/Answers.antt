@@ -1,4 +1,4 @@
-use Rattle.std.proofs.Common.{◌≡◌, ℕ, ◌≤◌, true, List, length, take, vec_items, vec_len, Option, sym, refl, ap, ◌∙◌, subst, arith, length-take, rules, MatchOption}
+use Rattle.std.proofs.Common.{◌≡◌, ℕ, true, List, length, take, vec_items, vec_len, Option, sym, refl, ap, ◌∙◌, subst, arith, length-take, rules, MatchOption}
 use Rattle.std.proofs.lemmas.List.{length-map, get_or-take}
 use Rattle.analysis.specs.Bounds.{LeastSolution, NoSolution}
 use Rattle.planner.specs.Rows.{tasks, lengths}
@@ -10,19 +10,13 @@ pub invariant_of-self : goal.invariant_of-self
 invariant_of-self g c =
     let s = c.args.self.now in
     let xs = s.rows.items.items in
-    let w = c.set_bounds.ensures in (
-      omega (arith, w.len, s.whole),
-      (
-        s.roomy,
-        (
-          named_as _ _ _ _ refl w.len s.named,
-          (
-            choice_as (tasks xs) _ (lengths xs) _ (vec_len s.rows.items) _ w.tasks w.lengths w.len s.choice,
-            tt,
-          ),
-        ),
-      ),
-    )
+    let w = c.set_bounds.ensures in
+    record {
+      whole = omega (arith, w.len, s.whole);
+      roomy = s.roomy;
+      named = named_as _ _ _ _ refl w.len s.named;
+      choice = choice_as (tasks xs) _ (lengths xs) _ (vec_len s.rows.items) _ w.tasks w.lengths w.len s.choice;
+    }
 
 pub returns : goal.returns
 returns g c =

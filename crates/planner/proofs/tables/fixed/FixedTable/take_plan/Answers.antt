@@ -1,4 +1,4 @@
-use Rattle.std.proofs.Common.{◌≡◌, ℕ, ◌≤◌, true, false, List, length, take, replicate, Some, None, vec_items, vec_len, Option, sym, refl, ap, ◌∙◌, subst, inr, arith, length-take, rules, MatchOption}
+use Rattle.std.proofs.Common.{◌≡◌, true, false, length, take, replicate, vec_len, Option, sym, refl, ap, ◌∙◌, subst, arith, length-take, rules, MatchOption}
 use Rattle.std.proofs.lemmas.List.{length-map, get_or-take}
 use Rattle.analysis.specs.declared.plan.Plan.{Plan}
 use Rattle.analysis.specs.Plans.{FirstPlan, NoPlan}
@@ -18,19 +18,13 @@ invariant_of-self g c =
     let plan = c.in-Some.plan in
     let sum = g.R.Rule.meaning s.rule in
     let h = subst (λ (x : Option Plan). MatchOption x (NoPlan sum s.rows.cores (tasks xs)) (λ p. FirstPlan sum s.rows.cores (tasks xs) (take (length (tasks xs)) p.order) p.lengths)) c.in-Some.is c.requires.found in
-    let first = first_same sum s.rows.cores (tasks xs) plan.lengths (take (length (tasks xs)) plan.lengths) (λ j l. sym (get_or-take (length (tasks xs)) plan.lengths j 0 l)) (take (length (tasks xs)) plan.order) h in (
-      omega (arith, o.len, w.len, s.whole),
-      (
-        omega (arith, o.room, s.roomy),
-        (
-          named_as (take (length (tasks xs)) plan.order) _ (length (tasks xs)) _ (o.items ∙ ap (λ k. take k plan.order) q) (w.len ∙ n) first.order.1,
-          (
-            choice_as (tasks xs) _ (take (length (tasks xs)) plan.lengths) _ (length (tasks xs)) _ w.tasks (w.lengths ∙ ap (λ k. take k plan.lengths) n) (w.len ∙ n) first.lengths.choice,
-            tt,
-          ),
-        ),
-      ),
-    )
+    let first = first_same sum s.rows.cores (tasks xs) plan.lengths (take (length (tasks xs)) plan.lengths) (λ j l. sym (get_or-take (length (tasks xs)) plan.lengths j 0 l)) (take (length (tasks xs)) plan.order) h in
+    record {
+      whole = omega (arith, o.len, w.len, s.whole);
+      roomy = omega (arith, o.room, s.roomy);
+      named = named_as (take (length (tasks xs)) plan.order) _ (length (tasks xs)) _ (o.items ∙ ap (λ k. take k plan.order) q) (w.len ∙ n) first.order.1;
+      choice = choice_as (tasks xs) _ (take (length (tasks xs)) plan.lengths) _ (length (tasks xs)) _ w.tasks (w.lengths ∙ ap (λ k. take k plan.lengths) n) (w.len ∙ n) first.lengths.choice;
+    }
 
 pub returns : goal.returns
 returns g c =

@@ -1,4 +1,4 @@
-use Rattle.std.proofs.Common.{◌≡◌, length, take}
+use Rattle.std.proofs.Common.{◌≡◌, take}
 use Rattle.planner.proofs.tables.fixed.calls.write_order.Given as goal
 
 abbrev pub invariant-loop-p : goal.invariant-loop-p

@@ -13,22 +13,14 @@ invariant_of-self c =
     let t = c.args.task in
     let r : Row = record { task = t; length = 1; bound = 0 } in
     let w = c.push_reserved.ensures in
-    let few = length-map xs (λ x. x.task) in (
-      s.some,
-      (
-        s.most,
-        (
-          omega (arith, w.len, c.requires.few, few, s.items.ok.0),
-          (
-            omega (arith, w.capacity),
-            (
-              within_as _ _ (tasks_push xs _ r w.items) (within_push (tasks xs) t s.limits c.requires.limits),
-              tt,
-            ),
-          ),
-        ),
-      ),
-    )
+    let few = length-map xs (λ x. x.task) in
+    record {
+      some = s.some;
+      most = s.most;
+      few = omega (arith, w.len, c.requires.few, few, s.items.ok.0);
+      room = omega (arith, w.capacity);
+      limits = within_as _ _ (tasks_push xs _ r w.items) (within_push (tasks xs) t s.limits c.requires.limits);
+    }
 
 pub returns : goal.returns
 returns c =

@@ -1,4 +1,4 @@
-use Rattle.std.proofs.Common.{◌≡◌, ℕ, ◌-◌, ◌<◌, length, set, sym, refl, ap, ◌∙◌, subst, arith}
+use Rattle.std.proofs.Common.{◌-◌, ◌<◌, length, set, sym, refl, ap, ◌∙◌, subst, arith}
 use Rattle.std.proofs.lemmas.List.{length-map, map-set}
 use Rattle.analysis.specs.declared.task.Task.{Task}
 use Rattle.analysis.specs.Rivals.{TaskWithinLimits}
@@ -14,22 +14,14 @@ invariant_of-self c =
     let n = c.args.number in
     let i = n - 1 in
     let inside : i < length xs = omega (arith, c.requires.has, length-map xs (λ r. r.task), s.items.ok.0) in
-    let k = amended_task xs i n c.args.cost c.index_mut.result.now c.change.new.row refl inside c.index_mut.ensures.value c.change.ensures.task in (
-      s.some,
-      (
-        s.most,
-        (
-          s.few,
-          (
-            s.room,
-            (
-              within_as _ _ (map-set (λ r. r.task) xs i c.change.new.row) (within_set (tasks xs) i c.change.new.row.task s.limits (subst (λ (t : Task). TaskWithinLimits t) (sym k) c.requires.limits)),
-              tt,
-            ),
-          ),
-        ),
-      ),
-    )
+    let k = amended_task xs i n c.args.cost c.index_mut.result.now c.change.new.row refl inside c.index_mut.ensures.value c.change.ensures.task in
+    record {
+      some = s.some;
+      most = s.most;
+      few = s.few;
+      room = s.room;
+      limits = within_as _ _ (map-set (λ r. r.task) xs i c.change.new.row) (within_set (tasks xs) i c.change.new.row.task s.limits (subst (λ (t : Task). TaskWithinLimits t) (sym k) c.requires.limits));
+    }
 
 pub returns : goal.returns
 returns c =

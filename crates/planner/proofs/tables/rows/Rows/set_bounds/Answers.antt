@@ -1,4 +1,4 @@
-use Rattle.std.proofs.Common.{◌≡◌, length, take, replicate, vec_len, refl, ap, ◌∙◌, arith, rules}
+use Rattle.std.proofs.Common.{◌≡◌, length, take, vec_len, refl, ap, ◌∙◌, rules}
 use Rattle.std.proofs.lemmas.List.{with_items_is}
 use Rattle.planner.specs.Rows.{tasks, lengths, bounds}
 use Rattle.planner.proofs.OnRows.{within_as}
@@ -8,7 +8,13 @@ pub invariant_of-self : goal.invariant_of-self
 invariant_of-self c =
     let t = c.args.self.now in
     let e = with_items_is t.items c.write_bounds.new.rows (search rules) in
-    (t.some, (t.most, (t.few, (t.room, (within_as _ _ (ap tasks e ∙ c.write_bounds.ensures.tasks ∙ ap tasks c.deref_mut.ensures.value) t.limits, tt)))))
+    record {
+      some = t.some;
+      most = t.most;
+      few = t.few;
+      room = t.room;
+      limits = within_as _ _ (ap tasks e ∙ c.write_bounds.ensures.tasks ∙ ap tasks c.deref_mut.ensures.value) t.limits;
+    }
 
 pub returns : goal.returns
 returns c =

@@ -1,4 +1,4 @@
-use Rattle.std.proofs.Common.{◌≡◌, suc, ◌-◌, ◌++◌, length, take, drop, ap, ◌∙◌, arith}
+use Rattle.std.proofs.Common.{◌≡◌, suc, ◌-◌, ◌++◌, take, drop, ap, ◌∙◌, arith}
 use Rattle.std.proofs.lemmas.List.{length-map}
 use Rattle.planner.specs.Rows.{tasks}
 use Rattle.planner.specs.Tables.{opened}
@@ -10,22 +10,14 @@ invariant_of-self c =
     let s = c.args.self.now in
     let xs = s.items.items in
     let i = c.args.number - 1 in
-    let w = c.remove.ensures in (
-      s.some,
-      (
-        s.most,
-        (
-          omega (arith, w.len),
-          (
-            omega (arith, w.capacity),
-            (
-              within_as _ _ (ap tasks w.items ∙ tasks_removed xs i (suc i)) (within_removed (tasks xs) i (suc i) s.limits),
-              tt,
-            ),
-          ),
-        ),
-      ),
-    )
+    let w = c.remove.ensures in
+    record {
+      some = s.some;
+      most = s.most;
+      few = omega (arith, w.len);
+      room = omega (arith, w.capacity);
+      limits = within_as _ _ (ap tasks w.items ∙ tasks_removed xs i (suc i)) (within_removed (tasks xs) i (suc i) s.limits);
+    }
 
 pub returns : goal.returns
 returns c =

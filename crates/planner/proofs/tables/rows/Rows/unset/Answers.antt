@@ -1,4 +1,4 @@
-use Rattle.std.proofs.Common.{◌≡◌, vec_items, vec_len, ◌∙◌, arith}
+use Rattle.std.proofs.Common.{vec_items, vec_len, ◌∙◌, arith}
 use Rattle.planner.specs.Tables.{opened}
 use Rattle.planner.proofs.OnRows.{fresh_written}
 use Rattle.planner.proofs.OnWrites.{take_replicate}
