@@ -1,3 +1,5 @@
+#![tactic(auto)]
+
 // The public calls on tables, run: each refusal on both sides of its limit, and long mixed sequences.
 #[cfg(test)]
 mod line;

@@ -7,9 +7,9 @@ use Rattle.interference.specs.FullLaws.{full_lawful}
 use Rattle.interference.specs.LimitedLaws.{limited_lawful}
 use Rattle.interference.specs.LayerLaws.{layered_lawful}
 use Rattle.analysis.specs.declared.task.Task.{Task}
-use Rattle.analysis.specs.Rivals.{no_task, TaskWithinLimits, TasksWithinLimits, cost_of, among}
+use Rattle.analysis.specs.Rivals.{no_task, TaskWithinLimits, TasksWithinLimits, among}
 use Rattle.analysis.specs.Plans.{IsOrder, IsChoice}
-use Rattle.examples.specs.Lines.{Rules, full, limited, handled, sum_of, Setting, upward, count, sizes, Fitting}
+use Rattle.examples.specs.Lines.{Rules, full, limited, handled, sum_of, Setting, upward, count, Fitting}
 use Rattle.examples.proofs.Bounded.{all_below, all_below_at}
 
 le_and : (a b : ℕ) (x : Bool) → (leb a b && x) ≡ true → (a ≤ b) × (x ≡ true)

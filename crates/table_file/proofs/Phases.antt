@@ -1,5 +1,5 @@
 -- What a frame comes to, by the phase.
-use Rattle.std.proofs.Common.{◌≡◌, ℕ, ◌-◌, ◌⊎◌, List, Err, refl, inl, inr, arith}
+use Rattle.std.proofs.Common.{◌≡◌, ℕ, ◌⊎◌, List, Err, refl, inl, inr, arith}
 use Rattle.table_file.specs.declared.fault.Number.TheVariants.{NotDue}
 use Rattle.table_file.specs.declared.reader.Phase.{Phase}
 use Rattle.table_file.specs.declared.reader.Phase.TheVariants.{Start, Tasks, Places}

@@ -1,4 +1,6 @@
 // The stored form of a table: lines of digits, frames, faults, reading and writing.
+#![tactic(auto)]
+
 mod digits;
 pub mod fault;
 mod frames;

@@ -1,4 +1,4 @@
-use Rattle.std.proofs.Common.{◌≡◌, ℕ, List, [], ◌∷◌, ◌++◌, refl, ap, ◌∙◌, arith}
+use Rattle.std.proofs.Common.{ℕ, List, [], ◌∷◌, ◌++◌, refl, ◌∙◌, arith}
 use Rattle.table_file.specs.Digits.{byte_text, word_text}
 use Rattle.table_file.specs.Notices.{notice_line}
 use Rattle.table_file.proofs.OnPuts.{put_then, put_one, put_start}

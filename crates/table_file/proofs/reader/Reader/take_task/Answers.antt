@@ -5,8 +5,8 @@ use Rattle.analysis.proofs.Fixpoint.{when_yes, when_no}
 use Rattle.table_file.proofs.Placed.{task_full, task_refused, task_accepted}
 use Rattle.table_file.proofs.reader.Reader.take_task.Goals as goal
 
-pub returns-then-at-ge-MOST-TASKS : goal.returns-then-at-ge-MOST-TASKS
-returns-then-at-ge-MOST-TASKS c =
+pub returns-then-at-ge-MOST_TASKS : goal.returns-then-at-ge-MOST_TASKS
+returns-then-at-ge-MOST_TASKS c =
     (task_full c.args.self.now c.args.digits.now c.args.line c.requires.few (omega arith) ∙ ap Err (sym c.of_line.ensures), refl)
 
 pub returns-then-not-is_within_limits : goal.returns-then-not-is_within_limits
