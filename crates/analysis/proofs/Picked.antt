@@ -1,6 +1,6 @@
 -- Lists of what is picked by number.
 use Rattle.std.proofs.Common.{◌≡◌, ℕ, zero, suc, ◌+◌, ◌<◌, ◌≤◌, Bool, true, false, cond, ◌⊎◌, List, [], ◌∷◌, ◌++◌, length, take, set, sym, refl, ap, ◌∙◌, subst, inl, inr, ⊎_elim, add-one, arith}
-use Rattle.std.specs.List.{AllZip, AllByRecursion as All}
+use Rattle.std.specs.List.{AllZip, AllByRecursion}
 use Rattle.std.proofs.lemmas.List.{take_more_set, length_push, append-nil}
 use Rattle.std.proofs.lemmas.List.Elements.{AllZip-push}
 use Rattle.std.proofs.ByRecursion.{All-push}
@@ -14,13 +14,13 @@ module _ {X : Type 0} (p : ℕ → Bool) (g : ℕ → X) where
   pub picked_no : (n : ℕ) → p n ≡ false → picked p g (n + 1) ≡ picked p g n
   picked_no n h = rw add-one (ap (λ l. picked p g n ++ l) (cond-false (p n) (g n ∷ []) [] h) ∙ append-nil (picked p g n))
 
-  pub all_picked : (P : X → Type 0) (n : ℕ) → ((j : ℕ) → j < n → p j ≡ true → P (g j)) → All P (picked p g n)
+  pub all_picked : (P : X → Type 0) (n : ℕ) → ((j : ℕ) → j < n → p j ≡ true → P (g j)) → AllByRecursion P (picked p g n)
   all_picked P zero h = tt
   all_picked P (suc n) h =
       let r = all_picked P n (λ j l e. h j (omega arith) e) in
       ⊎_elim
-      (λ e. subst (All P) (sym (ap (λ l. picked p g n ++ l) (cond-true (p n) (g n ∷ []) [] e))) (All-push P (picked p g n) (g n) r (h n (omega arith) e)))
-      (λ e. subst (All P) (sym (ap (λ l. picked p g n ++ l) (cond-false (p n) (g n ∷ []) [] e) ∙ append-nil (picked p g n))) r)
+      (λ e. subst (AllByRecursion P) (sym (ap (λ l. picked p g n ++ l) (cond-true (p n) (g n ∷ []) [] e))) (All-push P (picked p g n) (g n) r (h n (omega arith) e)))
+      (λ e. subst (AllByRecursion P) (sym (ap (λ l. picked p g n ++ l) (cond-false (p n) (g n ∷ []) [] e) ∙ append-nil (picked p g n))) r)
       (cases_Bool (p n))
 
   -- a buffer that is filled from the front

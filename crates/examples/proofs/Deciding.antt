@@ -1,6 +1,6 @@
 -- A test of each line, and that a line which passes its test is true.
 use Rattle.std.proofs.Common.{◌≡◌, ℕ, ◌-◌, Bool, true, not, ◌&&◌, eqb, List, [], ◌∷◌}
-use Rattle.std.specs.List.{AllByRecursion as All}
+use Rattle.std.specs.List.{AllByRecursion}
 use Rattle.std.proofs.lemmas.Bool.{and_parts, both_ways, eqb-true, not-true}
 use Rattle.interference.specs.Shares.{workload}
 use Rattle.examples.specs.Lines.{Setting, Line, work, passes, fails, no_lengths, first_plan, least_bounds, no_bounds, count, sizes, Arranged, Numbered, Means}
@@ -63,6 +63,6 @@ abbrev pub every : List Line → Bool
 every [] = true
 every (l ∷ ls) = holds l && every ls
 
-pub every_decided : (ls : List Line) → every ls ≡ true → All Means ls
+pub every_decided : (ls : List Line) → every ls ≡ true → AllByRecursion Means ls
 every_decided [] h = tt
 every_decided (l ∷ ls) h = let p = and_parts (holds l) (every ls) h in (decided l p.0, every_decided ls p.1)

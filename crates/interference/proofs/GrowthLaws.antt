@@ -1,6 +1,6 @@
 -- From laws of one change each: the sum does not fall when all that may grow does so together.
 use Rattle.std.proofs.Common.{◌≡◌, ℕ, ◌<◌, ◌≤◌, List, [], ◌∷◌, ◌++◌, length, set, sym, refl, ap, ◌∙◌, subst, arith, length-append}
-use Rattle.std.specs.List.{AllByRecursion as All}
+use Rattle.std.specs.List.{AllByRecursion}
 use Rattle.std.proofs.lemmas.List.Elements.{length_all_zip}
 use Rattle.std.proofs.ByRecursion.{All-get_or, All-set}
 use Rattle.std.proofs.lemmas.List.{get_or_at, set_at}
@@ -20,15 +20,15 @@ changed_middle g pre rest r s e =
 middle_within : (pre rest : List Rival) (r : Rival) → length pre < length (pre ++ (r ∷ rest))
 middle_within pre rest r = rw length-append (omega arith)
 
-places : (rs : List Rival) → All RivalWithinLimits rs → RivalsWithinLimits rs
+places : (rs : List Rival) → AllByRecursion RivalWithinLimits rs → RivalsWithinLimits rs
 places rs a i lt = All-get_or RivalWithinLimits rs i nobody lt a
 
-upper_valid : (q : Query) → Valid q → (us : List Rival) → length us ≡ length q.upper → All RivalWithinLimits us → Valid (with_upper q us)
+upper_valid : (q : Query) → Valid q → (us : List Rival) → length us ≡ length q.upper → AllByRecursion RivalWithinLimits us → Valid (with_upper q us)
 upper_valid q v us k a =
     let z = v.sizes in
     record { times = v.times; sizes = (z.0, z.1, omega arith); uppers = places us a; lowers = v.lowers }
 
-lower_valid : (q : Query) → Valid q → (ls : List Rival) → length ls ≡ length q.lower → All RivalWithinLimits ls → Valid (with_lower q ls)
+lower_valid : (q : Query) → Valid q → (ls : List Rival) → length ls ≡ length q.lower → AllByRecursion RivalWithinLimits ls → Valid (with_lower q ls)
 lower_valid q v ls k a =
     let z = v.sizes in
     record { times = v.times; sizes = (z.0, z.1, omega arith); uppers = v.uppers; lowers = places ls a }
@@ -36,7 +36,7 @@ lower_valid q v ls k a =
 same_size : (pre rest : List Rival) (r s : Rival) (n : ℕ) → length (pre ++ (r ∷ rest)) ≡ n → length (pre ++ (s ∷ rest)) ≡ n
 same_size pre rest r s n k = omega (arith, length-append pre (r ∷ rest), length-append pre (s ∷ rest))
 
-middle_of : (pre rest : List Rival) (r : Rival) → All RivalWithinLimits (pre ++ (r ∷ rest)) → RivalWithinLimits r
+middle_of : (pre rest : List Rival) (r : Rival) → AllByRecursion RivalWithinLimits (pre ++ (r ∷ rest)) → RivalWithinLimits r
 middle_of pre rest r a = rw (get_or_at pre r rest nobody (length pre) refl) at (places (pre ++ (r ∷ rest)) a (length pre) (middle_within pre rest r))
 
 module _ (sum : Query → ℕ) (laws : Lawful sum) where
@@ -73,20 +73,20 @@ module _ (sum : Query → ℕ) (laws : Lawful sum) where
 
   -- one step on the upper list, and one on the lower: the finish first, then the cost
   upper_step : (q : Query) → Valid q → (pre rest : List Rival) (r s : Rival) → length (pre ++ (r ∷ rest)) ≡ length q.upper
-      → All RivalWithinLimits (pre ++ (r ∷ rest)) → All RivalWithinLimits (pre ++ (s ∷ rest)) → NoEarlier r s
+      → AllByRecursion RivalWithinLimits (pre ++ (r ∷ rest)) → AllByRecursion RivalWithinLimits (pre ++ (s ∷ rest)) → NoEarlier r s
       → sum (with_upper q (pre ++ (r ∷ rest))) ≤ sum (with_upper q (pre ++ (s ∷ rest)))
   upper_step q v pre rest r s k a b h =
       upper_later q pre rest r s (upper_valid q v (pre ++ (r ∷ rest)) k a) (upper_valid q v (pre ++ (s ∷ rest)) (same_size pre rest r s _ k) b) h
 
   lower_step : (q : Query) → Valid q → (pre rest : List Rival) (r s : Rival) → length (pre ++ (r ∷ rest)) ≡ length q.lower
-      → All RivalWithinLimits (pre ++ (r ∷ rest)) → All RivalWithinLimits (pre ++ (s ∷ rest)) → NoSmaller r s
+      → AllByRecursion RivalWithinLimits (pre ++ (r ∷ rest)) → AllByRecursion RivalWithinLimits (pre ++ (s ∷ rest)) → NoSmaller r s
       → sum (with_lower q (pre ++ (r ∷ rest))) ≤ sum (with_lower q (pre ++ (s ∷ rest)))
   lower_step q v pre rest r s k a b (later, costlier, is) =
       let m = with_finish r s.finish in
       let at_r = middle_of pre rest r a in
       let at_s = middle_of pre rest s b in
       let fits : RivalWithinLimits m = (omega arith, omega arith, omega arith, omega arith, omega arith) in
-      let between : All RivalWithinLimits (pre ++ (m ∷ rest)) =
+      let between : AllByRecursion RivalWithinLimits (pre ++ (m ∷ rest)) =
       rw (set_at pre r rest m (length pre) refl) at (All-set RivalWithinLimits (pre ++ (r ∷ rest)) (length pre) m fits a) in
       let first = lower_valid q v (pre ++ (r ∷ rest)) k a in
       let middle = lower_valid q v (pre ++ (m ∷ rest)) (same_size pre rest r m _ k) between in

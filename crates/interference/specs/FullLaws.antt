@@ -2,7 +2,7 @@
 use Rattle.std.specs.Prelude.{ℕ, ◌*◌, ◌<◌, ◌≤◌, List, length, sum_by, slice_set}
 use Rattle.std.proofs.Common.{arith, length-set, get_or-set_same}
 use Rattle.std.proofs.lemmas.Nat.{mul-le}
-use Rattle.std.specs.List.{AllByRecursion as All}
+use Rattle.std.specs.List.{AllByRecursion}
 use Rattle.std.proofs.lemmas.List.Sums.{sum_by-set}
 use Rattle.std.proofs.ByRecursion.{sum_by_le, All-from_get_or, All-weaker}
 use Rattle.interference.specs.declared.rival.Rival.{Rival}
@@ -13,7 +13,7 @@ use Rattle.interference.specs.Laws.{Lawful, Steady}
 use Rattle.interference.specs.ListLaws.{sum_by_mono}
 use Rattle.interference.specs.ShareLaws.{carry_window, carry_finish, carry_cost, carry_moved}
 
-pub within : (rs : List Rival) → RivalsWithinLimits rs → All RivalWithinLimits rs
+pub within : (rs : List Rival) → RivalsWithinLimits rs → AllByRecursion RivalWithinLimits rs
 within rs h = All-from_get_or RivalWithinLimits rs nobody h
 
 -- one list under two questions

@@ -1,7 +1,7 @@
 -- The greatest total over n or fewer elements, one element at a time.
 use Rattle.std.specs.Prelude.{◌≡◌, ℕ, zero, suc, ◌+◌, ◌-◌, ◌*◌, ◌<◌, ◌≤◌, max, List, [], ◌∷◌, ◌++◌, length, take, sum_by, slice_index_or, refl}
 use Rattle.std.proofs.Common.{ap, ◌∙◌, arith, mul-suc}
-use Rattle.std.specs.List.{AllZip, AllByRecursion as All}
+use Rattle.std.specs.List.{AllZip, AllByRecursion}
 use Rattle.std.proofs.lemmas.List.{take_more}
 use Rattle.std.proofs.lemmas.List.Sums.{sum_by-cons}
 
@@ -39,7 +39,7 @@ mixed p c zero (x ∷ xs) = p x + mixed p c zero xs
 mixed p c (suc n) (x ∷ xs) = max (c x + mixed p c n xs) (p x + mixed p c (suc n) xs)
 
 pub mixed_top : {X : Type 0} (P : X → Type 0) (p c : X → ℕ) → ((x : X) → P x → p x ≤ c x)
-    → (n : ℕ) (xs : List X) → All P xs → sum_by p xs + top (λ x. c x - p x) n xs ≡ mixed p c n xs
+    → (n : ℕ) (xs : List X) → AllByRecursion P xs → sum_by p xs + top (λ x. c x - p x) n xs ≡ mixed p c n xs
 mixed_top P p c le n [] h = omega arith
 mixed_top P p c le zero (x ∷ xs) h = omega (arith, sum_by-cons p x xs, mixed_top P p c le zero xs h.1, top_zero (λ y. c y - p y) xs)
 mixed_top P p c le (suc n) (x ∷ xs) h =

@@ -1,6 +1,6 @@
 -- Rows that are added, taken out or changed keep the limits of their tasks.
 use Rattle.std.proofs.Common.{◌≡◌, ℕ, ◌-◌, ◌<◌, List, [], ◌∷◌, ◌++◌, length, get_or, take, drop, set, replicate, sym, ap, ◌∙◌, subst, arith}
-use Rattle.std.specs.List.{AllByRecursion as All}
+use Rattle.std.specs.List.{AllByRecursion}
 use Rattle.std.proofs.ByRecursion.{All-get_or, All-from_get_or, All-append, All-push, All-set, All-take, All-drop}
 use Rattle.std.proofs.lemmas.List.{map-append, take-map, drop-map, map_push, get_or-map, get_or-replicate}
 use Rattle.analysis.specs.declared.task.Task.{Task}
@@ -9,10 +9,10 @@ use Rattle.planner.specs.declared.tables.rows.Row.{Row}
 use Rattle.planner.specs.Rows.{tasks, lengths, bounds, no_row, Unset, Fresh}
 use Rattle.planner.specs.Calls.{with_cost, task_numbered}
 
-each : (ts : List Task) → TasksWithinLimits ts → All TaskWithinLimits ts
+each : (ts : List Task) → TasksWithinLimits ts → AllByRecursion TaskWithinLimits ts
 each ts v = All-from_get_or TaskWithinLimits ts no_task v
 
-places : (ts : List Task) → All TaskWithinLimits ts → TasksWithinLimits ts
+places : (ts : List Task) → AllByRecursion TaskWithinLimits ts → TasksWithinLimits ts
 places ts a k l = All-get_or TaskWithinLimits ts k no_task l a
 
 pub within_push : (ts : List Task) (t : Task) → TasksWithinLimits ts → TaskWithinLimits t → TasksWithinLimits (ts ++ t ∷ [])
@@ -51,10 +51,10 @@ pub amended_task : (xs : List Row) (i n c : ℕ) (lent new : Row) → i ≡ n - 
 amended_task xs i n c lent new e l h k = k ∙ ap (λ t. with_cost t c) (sym (numbered_task xs i n lent e l h))
 
 -- fresh rows stay fresh
-fresh_each : (rs : List Row) → Fresh rs → All Unset rs
+fresh_each : (rs : List Row) → Fresh rs → AllByRecursion Unset rs
 fresh_each rs f = All-from_get_or Unset rs no_row f
 
-each_fresh : (rs : List Row) → All Unset rs → Fresh rs
+each_fresh : (rs : List Row) → AllByRecursion Unset rs → Fresh rs
 each_fresh rs a i l = All-get_or Unset rs i no_row l a
 
 pub fresh_push : (rs new : List Row) (r : Row) → new ≡ rs ++ r ∷ [] → Unset r → Fresh rs → Fresh new

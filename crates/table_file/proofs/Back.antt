@@ -1,6 +1,6 @@
 -- What is written reads back.
 use Rattle.std.proofs.Common.{◌≡◌, ℕ, zero, suc, ◌+◌, ◌-◌, ◌*◌, ◌%◌, ◌<◌, ◌≤◌, true, cond, not, ◌&&◌, ◌||◌, eqb, ltb, leb, List, [], ◌∷◌, ◌++◌, length, get_or, drop, Ok, Err, sym, refl, ap, ◌∙◌, arith, length-append}
-use Rattle.std.specs.List.{flat_map, AllByRecursion as All}
+use Rattle.std.specs.List.{flat_map, AllByRecursion}
 use Rattle.std.proofs.ByRecursion.{All-from_get_or}
 use Rattle.std.proofs.lemmas.List.{append-nil, append_assoc}
 use Rattle.std.proofs.lemmas.Bool.{cond-true, cond-false, le-ltb, ne_eqb, le-leb, lt-leb, and_from, or_from}
@@ -54,7 +54,7 @@ module _ (t : Task) (w : TaskWithinLimits t) where
       ∙ ap (λ u. cond (within_limits u) (Ok (so_far Tasks m (ts ++ u ∷ []) [])) (Err (fault_at Limits ln 1))) e
       ∙ cond-true _ _ _ (within_from t w)
 
-tasks_back : (ln m : ℕ) (ts us : List Task) (rest : List ℕ) → length ts + length us ≤ 32 → All TaskWithinLimits us
+tasks_back : (ln m : ℕ) (ts us : List Task) (rest : List ℕ) → length ts + length us ≤ 32 → AllByRecursion TaskWithinLimits us
     → read_lines ln (so_far Tasks m ts []) (lines_of (flat_map task_line us ++ rest)) ≡ read_lines (ln + length us) (so_far Tasks m (ts ++ us) []) (lines_of rest)
 tasks_back ln m ts [] rest h s = λ i. read_lines (zero_more i) (so_far Tasks m (sym (append-nil ts) i) []) (lines_of rest)
   where
@@ -70,7 +70,7 @@ tasks_back ln m ts (u ∷ us) rest h s =
     more : ln + 1 + length us ≡ ln + length (u ∷ us)
     more = omega arith
 
-module _ (ts : List Task) (few : length ts ≤ 32) (all : All TaskWithinLimits ts) where
+module _ (ts : List Task) (few : length ts ≤ 32) (all : AllByRecursion TaskWithinLimits ts) where
   module _ (p : Place) (ps : List Place) (f : PlaceFits ts ps p) (small : p.length < 65536) where
     place_hex : AllDigits (place_frame p)
     place_hex =
@@ -146,7 +146,7 @@ some_places s v = below (length s.places) (length s.tasks) v.whole v.few
 pub reads_back : (s : Stored) → Valid s → read_file (file_text s) ≡ Ok s
 reads_back s v =
     let n : length (file_text s) ≤ 65535 = omega (arith, text_length s, v.few, some_places s v) in
-    let all : All TaskWithinLimits s.tasks = All-from_get_or TaskWithinLimits s.tasks no_task v.tasks in
+    let all : AllByRecursion TaskWithinLimits s.tasks = All-from_get_or TaskWithinLimits s.tasks no_task v.tasks in
     let tail : List ℕ = flat_map task_line s.tasks ++ flat_map place_line s.places in
     cond-false _ _ _ (le-ltb 65535 (length (file_text s)) n)
     ∙ ap (read_lines 1 begin) (lines_join (cores_frame s.cores) tail (byte_hex 1 (byte_text s.cores) (omega arith) (byte_hex s.cores [] (omega (arith, v.most)) no_hex)))

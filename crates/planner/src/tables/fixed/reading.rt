@@ -1,6 +1,6 @@
 ghost use Rattle.std.specs.Prelude.{◌≡◌, ℕ, ◌<◌, ◌≤◌, length, take, slice_index};
 ghost use Rattle.analysis.specs.Plans.{Named};
-ghost use Rattle.planner.specs.Rows.{tasks as row-tasks, lengths as row-lengths, bounds as row-bounds};
+ghost use Rattle.planner.specs.Rows.{tasks as row_tasks, lengths as row_lengths, bounds as row_bounds};
 ghost use Rattle.planner.specs.Tables.{holds};
 ghost use Rattle.planner.specs.Reading.{FixedWithinLimits, ReadsOut, Room, lent, filled, over, standing, as_standing};
 
@@ -20,9 +20,9 @@ impl<R: Rule> FixedTable<R> {
 
     // The task records in number order, each with its length and bound.
     pub fn rows(&self) -> &[Row]
-        ensures tasks { row-tasks result.now ≡ (holds self.now).tasks }
-        ensures lengths { row-lengths result.now ≡ (holds self.now).lengths }
-        ensures bounds { row-bounds result.now ≡ (holds self.now).bounds }
+        ensures tasks { row_tasks result.now ≡ (holds self.now).tasks }
+        ensures lengths { row_lengths result.now ≡ (holds self.now).lengths }
+        ensures bounds { row_bounds result.now ≡ (holds self.now).bounds }
         ensures within { FixedWithinLimits (holds self.now) }
     {
         self.keeps_limits();
@@ -99,8 +99,8 @@ pub(in crate::tables) fn write_numbers(order: &[usize], out: &mut [u32])
 fn write_places(order: &[usize], rows: &[Row], lengths: &mut [u32], bounds: &mut [u32])
     requires named { Named (length rows.now) order.now }
     requires room { (length order.now ≤ length lengths.old) × (length order.now ≤ length bounds.old) }
-    ensures lengths { lengths.new ≡ over (as_standing order.now (row-lengths rows.now)) lengths.old }
-    ensures bounds { bounds.new ≡ over (as_standing order.now (row-bounds rows.now)) bounds.old }
+    ensures lengths { lengths.new ≡ over (as_standing order.now (row_lengths rows.now)) lengths.old }
+    ensures bounds { bounds.new ≡ over (as_standing order.now (row_bounds rows.now)) bounds.old }
 {
     let count = order.len();
     for p in 0..count {
