@@ -5,7 +5,7 @@ use crate::question::Question;
 use crate::rule::Rule;
 
 // One of two rules, so that rules of several types can serve where one type is asked for.
-#[derive(Clone, Copy)]
+#[derive(Clone, Copy, Drop)]
 pub enum Choice<A, B> {
     First(A),
     Second(B),

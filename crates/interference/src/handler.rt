@@ -10,7 +10,7 @@ use crate::shares::handler;
 const SUM_LIMIT: u32 = 1_000_000_000;
 
 // A layer: the share of an interrupt handler on top of the sum of the rule below.
-#[derive(Clone, Copy)]
+#[derive(Clone, Copy, Drop)]
 pub struct Handler<R> {
     pub interrupt: Interrupt,
     pub below: R,

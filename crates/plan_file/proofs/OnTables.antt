@@ -1,5 +1,5 @@
 -- What the code's replay of a fix and a quick plan gives.
-use Rattle.std.proofs.Common.{◌≡◌, ℕ, ◌<◌, ◌≤◌, min, Bool, true, false, ◌&&◌, List, [], ◌∷◌, map, length, get_or, take, Ok, sym, refl, ap, ◌∙◌, subst, arith}
+use Rattle.std.proofs.Common.{◌≡◌, ℕ, min, true, List, [], ◌∷◌, map, length, get_or, take, Ok, refl, ap, ◌∙◌, subst, arith}
 use Rattle.std.proofs.lemmas.List.{take_all}
 use Rattle.std.proofs.lemmas.Bool.{false≢true}
 use Rattle.interference.specs.Questions.{Query}
@@ -8,7 +8,6 @@ use Rattle.interference.specs.Sums.{full_sum}
 use Rattle.analysis.specs.declared.task.Task.{Task}
 use Rattle.planner.specs.declared.refusal.Refusal.{Refusal}
 use Rattle.planner.specs.declared.replay.Report.{Report}
-use Rattle.planner.specs.declared.replay.QuickCall.{QuickCall}
 use Rattle.planner.specs.declared.replay.QuickCall.TheVariants.{Lengths, Plan}
 use Rattle.planner.specs.declared.replay.Call.{Call}
 use Rattle.planner.specs.declared.replay.Call.TheVariants as call
@@ -17,12 +16,12 @@ use Rattle.planner.specs.declared.replay.Table.TheVariants as table
 use Rattle.planner.specs.declared.replay.Outcome.{Outcome}
 use Rattle.planner.specs.declared.replay.Outcome.TheVariants.{Done, Refused, NotApplicable}
 use Rattle.planner.specs.declared.tables.fixed.FixedTable.{FixedTable}
-use Rattle.planner.specs.Tables.{Open, holds}
+use Rattle.planner.specs.Tables.{Open}
 use Rattle.planner.specs.Reading.{standing}
-use Rattle.planner.specs.History.{Request, Setup, unfixed, fixed_by, still, setup}
+use Rattle.planner.specs.History.{Request, unfixed, fixed_by, still, setup}
 use Rattle.planner.specs.Replaying.{Under, plainly, steadily, sum_under, Steadily, request, state, came}
 use Rattle.planner.specs.Promises.{Promises}
-use Rattle.table_file.specs.Stored.{stored, placed, of_fixed}
+use Rattle.table_file.specs.Stored.{stored, placed}
 use Rattle.plan_file.specs.Requests.{full_rule, plan_requests, fix_then_plan}
 use Rattle.plan_file.specs.Answers.{Planned}
 use Rattle.plan_file.proofs.OnCalls.{PlanCame, plan_comes}

@@ -1,10 +1,9 @@
 -- There is one answer to a file.
-use Rattle.std.proofs.Common.{◌≡◌, ℕ, ◌<◌, ◌≤◌, List, length, Ok, Err, Result, sym, ◌∙◌, arith}
+use Rattle.std.proofs.Common.{◌≡◌, ℕ, List, length, Ok, Err, Result, sym, ◌∙◌, arith}
 use Rattle.interference.specs.Sums.{full_sum}
 use Rattle.analysis.specs.declared.task.Task.{Task}
 use Rattle.analysis.specs.Rivals.{cost_of}
 use Rattle.analysis.specs.Passing.{PassesOver}
-use Rattle.analysis.specs.Plans.{FirstPlan, NoPlan}
 use Rattle.planner.specs.Reading.{standing}
 use Rattle.planner.proofs.OneAnswer.{one_plan}
 use Rattle.table_file.specs.declared.fault.Fault.{Fault}

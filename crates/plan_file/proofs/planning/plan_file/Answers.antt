@@ -1,10 +1,10 @@
-use Rattle.std.proofs.Common.{◌≡◌, ℕ, List, Ok, Err, Result, sym, ap, ◌∙◌, subst}
+use Rattle.std.proofs.Common.{◌≡◌, ℕ, List, Ok, Err, Result, sym, ap, subst}
 use Rattle.planner.specs.Tables.{Open, held, opened}
 use Rattle.table_file.specs.declared.fault.Fault.{Fault}
 use Rattle.table_file.specs.Stored.{Stored}
 use Rattle.table_file.specs.Reading.{read_file}
 use Rattle.table_file.specs.Sheets.{kept}
-use Rattle.table_file.specs.Notices.{notice_line, of_fault}
+use Rattle.table_file.specs.Notices.{notice_line}
 use Rattle.table_file.specs.Promises.{Accepted, Refused}
 use Rattle.plan_file.specs.Answers.{PlanAnswer, FileAnswer}
 use Rattle.plan_file.proofs.OneAnswer.{one_answer}

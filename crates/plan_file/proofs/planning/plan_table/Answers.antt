@@ -1,11 +1,10 @@
-use Rattle.std.proofs.Common.{◌≡◌, List, refl, ap, ◌∙◌, subst, ⊎_elim}
+use Rattle.std.proofs.Common.{◌≡◌, ap, ◌∙◌, ⊎_elim}
 use Rattle.planner.specs.Tables.{held, holds}
 use Rattle.planner.specs.Refusals.{number}
-use Rattle.planner.specs.Reading.{over}
 use Rattle.table_file.specs.Stored.{of_fixed}
 use Rattle.table_file.specs.FileText.{file_text}
 use Rattle.table_file.specs.Notices.{notice_line}
-use Rattle.plan_file.specs.Answers.{Planned, PlanAnswer, too_many, none, planned, refusal_notice, seek_notice}
+use Rattle.plan_file.specs.Answers.{too_many, none, planned, seek_notice}
 use Rattle.plan_file.proofs.planning.plan_table.Goals as goal
 
 pub returns-in-Ok : goal.returns-in-Ok
@@ -29,9 +28,9 @@ returns-in-Err c =
     record {
       bytes = notice_line c.seek_notice.result;
       answer = ⊎_elim
-        (λ many. too_many many.1 (said ∙ ap seek_notice many.0))
-        (λ no. none no.1 no.2 (said ∙ ap seek_notice no.0))
-        c.in-Err.ensures;
+          (λ many. too_many many.1 (said ∙ ap seek_notice many.0))
+          (λ no. none no.1 no.2 (said ∙ ap seek_notice no.0))
+          c.in-Err.ensures;
       count = w.count;
       text = w.text;
     }
