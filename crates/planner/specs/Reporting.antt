@@ -7,7 +7,7 @@ use Rattle.planner.specs.Reading.{standing}
 use Rattle.planner.specs.History.{Request, State, still, joined, Turn}
 use Rattle.planner.specs.Replaying.{came}
 
--- what the lists of places, lengths and bounds hold where there are none
+-- what the lists of order, places, lengths and bounds hold where there are none
 abbrev pub nothing : List ℕ
 nothing = replicate 32 0
 
@@ -17,7 +17,7 @@ pub record ShowsOpen (m : Open) (r : Report) : Type 0 where
   pub cores : r.cores ≡ m.cores
   pub count : r.count ≡ length m.tasks
   pub tasks : take r.count r.tasks ≡ m.tasks
-  pub none : (r.places ≡ nothing) × (r.lengths ≡ nothing) × (r.bounds ≡ nothing)
+  pub none : (r.order ≡ nothing) × (r.places ≡ nothing) × (r.lengths ≡ nothing) × (r.bounds ≡ nothing)
 
 pub record ShowsFixed (m : Fixed) (r : Report) : Type 0 where
   pub kind : r.fixed ≡ true

@@ -6,8 +6,8 @@ use crate::rows::Rows;
 mod calls;
 mod reading;
 
-// A table whose tasks and cores can be changed. Lengths and bounds are not set yet: 1 and 0. The list for the order of a fixed table is kept, empty, so that to fix
-// wants no memory.
+// A table whose tasks and cores can be changed. Lengths and bounds are not set yet: 1 and 0. The list for the order of a
+// fixed table is kept, empty, so that to fix wants no memory.
 #[derive(Drop)]
 pub struct OpenTable {
     pub(in crate::tables) rows: Rows,

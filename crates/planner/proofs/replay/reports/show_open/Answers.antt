@@ -18,6 +18,6 @@ returns c =
         cores = c.core_count.ensures;
         count = sym (length-map r.result.now (λ x. x.task)) ∙ ap length r.ensures.tasks;
         tasks = c.tasks_of.ensures ∙ r.ensures.tasks;
-        none = (refl, refl, refl);
+        none = (refl, refl, refl, refl);
       };
     }
