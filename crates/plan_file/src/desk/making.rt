@@ -1,4 +1,6 @@
-ghost use Rattle.std.specs.Prelude.{◌≡◌, true, IfOk};
+ghost use Rattle.std.specs.Prelude.{◌≡◌, true, [], IfOk};
+ghost use Rattle.table_file.specs.Sheets.{kept};
+ghost use Rattle.table_file.specs.Stored.{stored};
 ghost use Rattle.plan_file.specs.Requests.{fix_then_plan};
 
 use super::Desk;
@@ -8,8 +10,10 @@ use std::alloc::{AllocError, Global};
 use table_file::sheet::Sheet;
 
 impl Desk {
-    // Only this can want memory.
-    pub fn new(heap: Global) -> Result<Desk, AllocError> {
+    // An empty sheet, and the two calls. Only this can want memory.
+    pub fn new(heap: Global) -> Result<Desk, AllocError>
+        ensures { IfOk result (λ d. (kept d.sheet ≡ stored 1 [] []) × (fix_then_plan d.calls.items ≡ true)) }
+    {
         let sheet = Sheet::new(heap)?;
         let calls = plan_calls(heap)?;
         Ok(Desk { sheet, calls })
