@@ -3,7 +3,7 @@ ghost use Rattle.interference.specs.FullLaws.{full_lawful};
 
 use crate::question::Question;
 use crate::rule::Rule;
-use crate::shares::carry_ins;
+use crate::shares::{CarryIn, total};
 
 // The full rule: every rival may carry work into the window.
 #[derive(Clone, Copy)]
@@ -15,6 +15,6 @@ impl Rule for Full {
     ghost laws = { λ s. full_lawful };
 
     fn sum(&self, q: &Question) -> u32 {
-        carry_ins(q, q.upper) + carry_ins(q, q.lower)
+        total(&CarryIn, q, q.upper) + total(&CarryIn, q, q.lower)
     }
 }

@@ -8,6 +8,7 @@ pub mod growth;
 pub mod handler;
 pub mod interrupt;
 pub mod limited;
+pub mod limits;
 pub mod question;
 pub mod refusal;
 pub mod rival;

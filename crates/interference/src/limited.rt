@@ -5,7 +5,8 @@ ghost use Rattle.interference.specs.LimitedLaws.{limited_lawful};
 
 use crate::question::Question;
 use crate::rule::Rule;
-use crate::shares::{carry_in, carry_ins, plain, plains};
+use crate::shares::{CarryIn, Plain, Share, total};
+use std::array;
 
 // The limited rule: at most one upper rival for each other core carries work into the window.
 #[derive(Clone, Copy)]
@@ -17,7 +18,7 @@ impl Rule for Limited {
     ghost laws = { λ s. limited_lawful };
 
     fn sum(&self, q: &Question) -> u32 {
-        plains(q, q.upper) + carry_ins(q, q.lower) + (q.region - 1) + carried_work(q)
+        total(&Plain, q, q.upper) + total(&CarryIn, q, q.lower) + (q.region - 1) + carried_work(q)
     }
 }
 
@@ -30,8 +31,9 @@ pub fn carried_work(q: &Question) -> u32
     // the greatest totals of at most 0, 1, .. 15 of the rivals so far
     let mut best = [0; 16];
     for r in q.upper {
-        let more = carry_in(q, r) - plain(q, r);
-        best = with_choice(&best, more);
+        let carry_in = CarryIn.of(q, r);
+        let plain = Plain.of(q, r);
+        best = with_choice(&best, carry_in - plain);
     }
     best[q.cores as usize - 1]
 }
@@ -43,9 +45,8 @@ fn with_choice(best: &[u32; 16], more: u32) -> [u32; 16]
     ensures none { slice_index result 0 ≡ slice_index best.now 0 }
     ensures some { (k : ℕ) → k < 15 → slice_index result (k + 1) ≡ max (more + slice_index best.now k) (slice_index best.now (k + 1)) }
 {
-    let mut next = *best;
-    for j in 1..16 {
-        next[j] = best[j].max(more + best[j - 1]);
-    }
-    next
+    array::from_fn(|j| match j {
+        0 => best[0],
+        _ => best[j].max(more + best[j - 1]),
+    })
 }

@@ -2,6 +2,8 @@ ghost use Rattle.interference.specs.Questions.{TimesWithinLimits, SizesWithinLim
 
 use crate::rival::Rival;
 
+mod checking;
+
 // A question to a rule: the cores, the window, the task's own demand and region length, and its rivals in higher and
 // in lower places. Every value of this type is within the limits.
 #[derive(Clone, Copy)]

@@ -8,11 +8,11 @@ pub enum Refusal {
     Limits = 3,
 }
 
-impl Refusal {
-    // the number that users know the refusal by
-    pub fn number(self) -> u8
-        ensures { result ≡ number self }
-    {
-        self as u8
+// the number that users know the refusal by
+impl From<Refusal> for u8 {
+    ghost from_gives = { λ r n. n ≡ number r };
+
+    fn from(refusal: Refusal) -> u8 {
+        refusal as u8
     }
 }

@@ -2,9 +2,8 @@ ghost use Rattle.std.specs.Prelude.{◌≡◌, MatchResult};
 ghost use Rattle.interference.specs.Handlers.{HandlerWithinLimits, number};
 
 use crate::interrupt::Interrupt;
+use crate::limits::MOST_TICKS;
 use crate::refusal::Refusal;
-
-const MOST_TICKS: u32 = 65_535;
 
 impl Interrupt {
     // A handler of this cost and gap, refused exactly where 1 ≤ cost ≤ gap ≤ 65,535 does not hold.

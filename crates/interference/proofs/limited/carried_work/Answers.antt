@@ -11,14 +11,14 @@ use Rattle.interference.proofs.limited.carried_work.Goals as goal
 small : (q : Query) → TimesWithinLimits q → (rs : List Rival) (k i : ℕ) → i ≤ 31 → top (carried q) k (take i rs) ≤ 2031585
 small q v rs k i h = omega (arith, top_le (carried q) 65535 (λ r. omega arith) k (take i rs), length-take i rs)
 
-pub overflow_sub-more : goal.overflow_sub-more
-overflow_sub-more c =
+pub overflow_sub-carry_in : goal.overflow_sub-carry_in
+overflow_sub-carry_in c =
     let r = rival_at c.args.q.now.upper.now c.loop-r.r-index in
-    omega (arith, plain_carry (query c.args.q.now) r (c.args.q.now.uppers c.loop-r.r-index c.loop-r-test.true), c.plain.ensures, c.carry_in.ensures)
+    omega (arith, plain_carry (query c.args.q.now) r (c.args.q.now.uppers c.loop-r.r-index c.loop-r-test.true), c.of-plain.ensures, c.of-carry_in.ensures)
 
 pub with_choice-best-requires : goal.with_choice-best-requires
 with_choice-best-requires c = record {
-  low = omega (arith, c.carry_in.ensures);
+  low = omega (arith, c.of-carry_in.ensures);
   small = λ k h. omega (arith, c.loop-r.invariant k h, small (query c.args.q.now) c.args.q.now.times c.args.q.now.upper.now k c.loop-r.r-index (omega (arith, c.args.q.now.sizes)));
 }
 
@@ -30,7 +30,7 @@ loop-r-preserved c (suc k) h =
     let f = carried (query c.args.q.now) in
     let e = top_more f k c.args.q.now.upper.now c.loop-r.r-index nobody c.loop-r-test.true in
     let s = rw add-one at (c.with_choice-best.ensures.some k (omega arith)) in
-    omega (arith, e, s, c.loop-r.invariant k (omega arith), c.loop-r.invariant (suc k) h, c.plain.ensures, c.carry_in.ensures)
+    omega (arith, e, s, c.loop-r.invariant k (omega arith), c.loop-r.invariant (suc k) h, c.of-plain.ensures, c.of-carry_in.ensures)
 
 pub returns : goal.returns
 returns c =

@@ -1,7 +1,0 @@
-use Rattle.std.proofs.Common.{◌≡◌, ◌*◌, ◌≤◌, take, sum_by}
-use Rattle.interference.specs.Shares.{carry_in_share}
-use Rattle.interference.specs.View.{query}
-use Rattle.interference.proofs.shares.carry_ins.Given as goal
-
-abbrev pub invariant-loop-r : goal.invariant-loop-r
-invariant-loop-r l = (l.sum ≤ 65535 * l.r-index) × (l.sum ≡ sum_by (carry_in_share (query l.q)) (take l.r-index l.rivals))
