@@ -1,61 +1,67 @@
+use crate::ranges::Ranges;
 use crate::tally::Outcome;
-use std::alloc::{AllocError, Global};
+use std::alloc::Global;
+use std::io;
 
-// What trying everything leaves of the lists that hold: whether there are any, whether the very first one holds, the
-// least number in each place over all of them, and whether these least numbers hold together.
+// What trying everything leaves of the lists that hold: what it came to, the least number in each place over all of
+// them, and whether these least numbers hold together.
 #[derive(Drop)]
 pub struct Least {
-    pub any: bool,
-    pub at_once: bool,
+    pub outcome: Outcome,
     pub values: Vec<u32>,
-    pub holds: bool,
+    holds: bool,
 }
 
 impl Least {
-    // Before the first list, with the greatest number in each place.
-    pub fn new(heap: Global, most: &[u32]) -> Result<Least, AllocError> {
-        let values = most.to_vec(heap)?;
+    // Tries every list within the ranges.
+    pub fn of<F: FnMut(&[u32]) -> io::Result<bool>>(
+        heap: Global,
+        ranges: &Ranges,
+        mut holds: F,
+    ) -> io::Result<Least>
+        requires { F.IsAlwaysCallable holds }
+    {
+        let mut outcome = Outcome::Nothing;
+        let mut values = ranges.most(heap)?;
+        for i in 0..ranges.count() {
+            let list = ranges.nth(heap, i)?;
+            if holds(&list)? {
+                outcome = outcome.with_one_more(i == 0);
+                lower(&mut values, &list);
+            }
+        }
+        let together = holds(&values)?;
         Ok(Least {
-            any: false,
-            at_once: false,
+            outcome,
             values,
-            holds: false,
+            holds: together,
         })
     }
 
-    // With one list more that holds.
-    pub fn take(&mut self, list: &[u32], is_first: bool) {
-        self.any = true;
-        self.at_once = self.at_once || is_first;
-        for (k, v) in self.values.iter_mut().enumerate() {
-            *v = list.get(k).copied().unwrap_or(0).min(*v);
-        }
-    }
-
-    pub fn outcome(&self) -> Outcome {
-        if !self.any {
-            Outcome::Nothing
-        } else if self.at_once {
-            Outcome::AtOnce
-        } else {
-            Outcome::Later
-        }
-    }
-
     // Whether a search found just this, filled up behind the last task.
-    pub fn agrees(&self, found: &Option<[u32; 32]>, filler: u32) -> bool {
+    pub fn agrees(&self, found: Option<&[u32; 32]>, filler: u32) -> bool {
         match found {
-            None => !self.any,
-            Some(list) => self.any && self.holds && is_filled(list, self.values.as_slice(), filler),
+            None => self.outcome == Outcome::Nothing,
+            Some(list) => {
+                self.outcome != Outcome::Nothing
+                    && self.holds
+                    && is_filled(list, &self.values, filler)
+            }
         }
     }
 }
 
-fn is_filled(list: &[u32; 32], values: &[u32], filler: u32) -> bool {
-    for (k, x) in list.iter().enumerate() {
-        if *x != values.get(k).copied().unwrap_or(filler) {
-            return false;
-        }
+// Takes each number down to that of another list.
+fn lower(values: &mut [u32], list: &[u32]) {
+    for (v, x) in values.iter_mut().zip(list) {
+        *v = (*v).min(*x);
     }
-    true
+}
+
+// Whether a list is another one, filled up to its own length.
+pub fn is_filled<T: PartialEq + Copy>(list: &[T], values: &[T], filler: T) -> bool {
+    match list.strip_prefix(values) {
+        Some(rest) => rest.iter().all(|x| *x == filler),
+        None => false,
+    }
 }

@@ -2,6 +2,7 @@
 
 use std::io;
 
+mod definitions;
 mod dice;
 mod exhaust;
 mod least;
@@ -21,12 +22,12 @@ use interference::handler::Handler;
 use interference::interrupt::Interrupt;
 use interference::limited::Limited;
 use interference::rule::Rule;
-use plain_sums::Meaning;
+use interference::steady::SteadyRule;
+use plain_sums::{Bottom, Meaning};
 use searches::{Quick, Search, Seek};
-use subject::Subject;
-use table::roll_table;
+use subject::{Subject, Trial};
+use table::Table;
 use tally::{Scores, Tally};
-use trial::{try_bounds, try_lengths, try_plan};
 
 const TABLES: u32 = 400;
 
@@ -41,113 +42,104 @@ fn run<R: Rule, S: Search<R>>(
     rt: &HostRuntime,
     search: &S,
     subject: &Subject<R>,
-    with_bounds: bool,
+    bounds: Option<Tally>,
 ) -> io::Result<u32> {
     let mut dice = Dice::new(SEED);
-    let mut scores = Scores::EMPTY;
+    let mut scores = Scores {
+        bounds,
+        ..Scores::default()
+    };
     for i in 0..TABLES {
-        let table = roll_table(rt.alloc(), &mut dice, i % 4 + 1)?;
-        let tasks = table.tasks.as_slice();
-        try_lengths(rt, search, subject, table.cores, tasks, &mut scores)?;
-        try_plan(rt, search, subject, table.cores, tasks, &mut scores)?;
-        // the bounds of four tasks are too many to try them all
-        if with_bounds && tasks.len() <= 3 {
-            try_bounds(rt, subject, table.cores, tasks, &mut scores)?;
+        let table = Table::roll(rt.alloc(), &mut dice, i % 4 + 1)?;
+        let trial = Trial {
+            rt,
+            subject,
+            table: &table,
+        };
+        trial.try_lengths(search, &mut scores)?;
+        trial.try_plan(search, &mut scores)?;
+        if let Some(mut tally) = scores.bounds {
+            // the bounds of four tasks are too many to try them all
+            if table.tasks.len() <= 3 {
+                trial.try_bounds(&mut scores.sums, &mut tally)?;
+                scores.bounds = Some(tally);
+            }
         }
     }
-    print_scores(rt, &scores, with_bounds)?;
+    println!(rt; "{scores}")?;
     Ok(scores.differed())
 }
 
-fn print_scores(rt: &HostRuntime, scores: &Scores, with_bounds: bool) -> io::Result<()> {
-    println!(rt;
-        "  sums: {} compared, {} differed",
-        scores.sums.compared, scores.sums.differed
-    )?;
-    print_tally(rt, "least lengths", &scores.lengths)?;
-    print_tally(rt, "first plans", &scores.plans)?;
-    if with_bounds {
-        print_tally(rt, "least bounds", &scores.bounds)?;
-    }
-    Ok(())
+// Both rules, and the quick searches under the one that is steady, each below its heading.
+fn run_rules<F: SteadyRule, L: Rule>(
+    rt: &HostRuntime,
+    full: &Subject<F>,
+    limited: &Subject<L>,
+    headings: [&str; 3],
+) -> io::Result<u32> {
+    let bounds = Some(Tally::default());
+    println!(rt; "{}", headings[0])?;
+    let first = run(rt, &Seek, full, bounds)?;
+    println!(rt; "{}", headings[1])?;
+    let second = run(rt, &Quick, full, None)?;
+    println!(rt; "{}", headings[2])?;
+    let third = run(rt, &Seek, limited, bounds)?;
+    Ok(first.saturating_add(second).saturating_add(third))
 }
 
-fn print_tally(rt: &HostRuntime, name: &str, tally: &Tally) -> io::Result<()> {
-    println!(rt;
-        "  {name}: {} compared ({} the first try, {} a later one, {} none), {} differed",
-        tally.compared(),
-        tally.at_once,
-        tally.later,
-        tally.nothing,
-        tally.differed
-    )
-}
-
-// Both rules, and the quick searches under the one that is steady.
-fn run_rules(rt: &HostRuntime) -> io::Result<u32> {
+fn run_bottoms(rt: &HostRuntime) -> io::Result<u32> {
+    let meaning = |bottom| Meaning {
+        bottom,
+        handler: None,
+    };
     let full = Subject {
         rule: Full,
-        meaning: Meaning {
-            limited: false,
-            handler_cost: 0,
-            handler_gap: 1,
-        },
+        meaning: meaning(Bottom::Full),
     };
     let limited = Subject {
         rule: Limited,
-        meaning: Meaning {
-            limited: true,
-            handler_cost: 0,
-            handler_gap: 1,
-        },
+        meaning: meaning(Bottom::Limited),
     };
-    println!(rt; "Full rule:")?;
-    let first = run(rt, &Seek, &full, true)?;
-    println!(rt; "Full rule, quick searches:")?;
-    let second = run(rt, &Quick, &full, false)?;
-    println!(rt; "Limited rule:")?;
-    let third = run(rt, &Seek, &limited, true)?;
-    Ok(first.saturating_add(second).saturating_add(third))
+    let headings = ["Full rule:", "Full rule, quick searches:", "Limited rule:"];
+    run_rules(rt, &full, &limited, headings)
 }
 
 // The same with a handler above each rule.
 fn run_layers(rt: &HostRuntime, interrupt: Interrupt) -> io::Result<u32> {
+    let meaning = |bottom| Meaning {
+        bottom,
+        handler: Some(interrupt),
+    };
     let full = Subject {
         rule: Handler {
             interrupt,
             below: Full,
         },
-        meaning: Meaning {
-            limited: false,
-            handler_cost: HANDLER_COST,
-            handler_gap: HANDLER_GAP,
-        },
+        meaning: meaning(Bottom::Full),
     };
     let limited = Subject {
         rule: Handler {
             interrupt,
             below: Limited,
         },
-        meaning: Meaning {
-            limited: true,
-            handler_cost: HANDLER_COST,
-            handler_gap: HANDLER_GAP,
-        },
+        meaning: meaning(Bottom::Limited),
     };
-    println!(rt; "Handler of cost {HANDLER_COST} and gap {HANDLER_GAP} over the full rule:")?;
-    let first = run(rt, &Seek, &full, true)?;
-    println!(rt; "The same handler over the full rule, quick searches:")?;
-    let second = run(rt, &Quick, &full, false)?;
-    println!(rt; "The same handler over the limited rule:")?;
-    let third = run(rt, &Seek, &limited, true)?;
-    Ok(first.saturating_add(second).saturating_add(third))
+    let named = format!(in rt.alloc();
+        "Handler of cost {HANDLER_COST} and gap {HANDLER_GAP} over the full rule:"
+    )?;
+    let headings = [
+        named.as_str(),
+        "The same handler over the full rule, quick searches:",
+        "The same handler over the limited rule:",
+    ];
+    run_rules(rt, &full, &limited, headings)
 }
 
 fn main(rt: HostRuntime) -> io::Result<()> {
     println!(rt;
         "{TABLES} tables of 1 to 4 tasks on 1 to 3 cores; each result of a search is compared with trying everything."
     )?;
-    let rules = run_rules(&rt)?;
+    let rules = run_bottoms(&rt)?;
     match Interrupt::check(HANDLER_COST, HANDLER_GAP) {
         Ok(interrupt) => {
             let layers = run_layers(&rt, interrupt)?;

@@ -1,16 +1,24 @@
 use std::alloc::{AllocError, Global};
 
-// How many lists there are of so many task numbers, with repeats.
-pub fn words(count: usize) -> usize {
-    let mut all = 1usize;
-    for _ in 0..count {
-        all = all.saturating_mul(count);
+// All orders of so many tasks, as lists of their numbers from 0, in the order of a dictionary.
+pub fn orders(heap: Global, count: usize) -> Result<Vec<Vec<usize>>, AllocError> {
+    let mut all = Vec::new(heap);
+    for number in 0..words(count) {
+        let letters = word(heap, count, number)?;
+        if names_all(&letters) {
+            all.push(letters)?;
+        }
     }
-    all
+    Ok(all)
+}
+
+// How many lists there are of so many task numbers, with repeats.
+fn words(count: usize) -> usize {
+    (0..count).fold(1usize, |all, _| all.saturating_mul(count))
 }
 
 // One of these lists, by its number from 0 in the order of a dictionary.
-pub fn word(heap: Global, count: usize, number: usize) -> Result<Vec<usize>, AllocError> {
+fn word(heap: Global, count: usize, number: usize) -> Result<Vec<usize>, AllocError> {
     let mut rest = number;
     let mut weight = words(count);
     let mut letters = Vec::new(heap);
@@ -23,15 +31,6 @@ pub fn word(heap: Global, count: usize, number: usize) -> Result<Vec<usize>, All
 }
 
 // Whether a list of so many task numbers has each of them, and so is an order.
-pub fn names_all(letters: &[usize]) -> bool {
-    for j in 0..letters.len() {
-        let mut named = false;
-        for x in letters {
-            named = named || *x == j;
-        }
-        if !named {
-            return false;
-        }
-    }
-    true
+fn names_all(letters: &[usize]) -> bool {
+    (0..letters.len()).all(|j| letters.contains(&j))
 }

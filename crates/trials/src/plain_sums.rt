@@ -1,22 +1,19 @@
+use interference::interrupt::Interrupt;
+use interference::question::Question;
 use interference::rival::Rival;
 
-// A rule as plain data: which sum it means, and the handler above it, of cost 0 where there is none.
+// The two rules at the bottom of all layers.
 #[derive(Clone, Copy)]
-pub struct Meaning {
-    pub limited: bool,
-    pub handler_cost: u32,
-    pub handler_gap: u32,
+pub enum Bottom {
+    Full,
+    Limited,
 }
 
-// The parts of a question.
+// A rule as plain data: which sum it means, and the handler above it, if there is one.
 #[derive(Clone, Copy)]
-pub struct Parts<'a> {
-    pub cores: u32,
-    pub window: u32,
-    pub demand: u32,
-    pub region: u32,
-    pub upper: &'a [Rival],
-    pub lower: &'a [Rival],
+pub struct Meaning {
+    pub bottom: Bottom,
+    pub handler: Option<Interrupt>,
 }
 
 // Counted tick by tick: with a release at every multiple of the period, the ticks in which the task executes if each
@@ -31,77 +28,67 @@ fn workload(cost: u32, period: u32, ticks: u32) -> u32 {
     executed
 }
 
-fn capped(q: &Parts, work: u32) -> u32 {
+fn capped(q: &Question, work: u32) -> u32 {
     work.min(q.window.saturating_sub(q.demand).saturating_add(1))
 }
 
-fn carry_in(q: &Parts, r: &Rival) -> u32 {
+fn carry_in(q: &Question, r: &Rival) -> u32 {
     let ticks = q.window.saturating_add(r.finish).saturating_sub(r.cost);
     capped(q, workload(r.cost, r.period, ticks))
 }
 
-fn plain(q: &Parts, r: &Rival) -> u32 {
+fn plain(q: &Question, r: &Rival) -> u32 {
     capped(q, workload(r.cost, r.period, q.window))
 }
 
-fn carry_ins(q: &Parts, rivals: &[Rival]) -> u32 {
+// The shares of some rivals, added up.
+fn total<F: Fn(&Rival) -> u32>(rivals: &[Rival], share: F) -> u32
+    requires { F.IsAlwaysCallable share }
+{
     let mut sum = 0u32;
     for r in rivals {
-        sum = sum.saturating_add(carry_in(q, r));
-    }
-    sum
-}
-
-fn plains(q: &Parts, rivals: &[Rival]) -> u32 {
-    let mut sum = 0u32;
-    for r in rivals {
-        sum = sum.saturating_add(plain(q, r));
+        sum = sum.saturating_add(share(r));
     }
     sum
 }
 
 // What the upper rivals of one choice carry in beyond their plain shares, the choice by the binary digits of a
 // number. Nothing where it has as many rivals as there are cores.
-fn carried_by(q: &Parts, choice: u32) -> u32 {
+fn carried_by(q: &Question, choice: u32) -> u32 {
     let mut rest = choice;
     let mut chosen = 0u32;
-    let mut total = 0u32;
+    let mut sum = 0u32;
     for r in q.upper {
         if rest % 2 == 1 {
             chosen = chosen.saturating_add(1);
-            total = total.saturating_add(carry_in(q, r).saturating_sub(plain(q, r)));
+            sum = sum.saturating_add(carry_in(q, r).saturating_sub(plain(q, r)));
         }
         rest = rest / 2;
     }
-    if chosen < q.cores { total } else { 0 }
+    if chosen < q.cores { sum } else { 0 }
 }
 
 // The greatest of these over all choices.
-fn carried(q: &Parts) -> u32 {
-    let mut choices = 1u32;
-    for _ in q.upper {
-        choices = choices.saturating_mul(2);
-    }
-    let mut most = 0;
-    for choice in 0..choices {
-        most = carried_by(q, choice).max(most);
-    }
-    most
+fn carried(q: &Question) -> u32 {
+    let choices = q.upper.iter().fold(1u32, |n, _| n.saturating_mul(2));
+    (0..choices)
+        .map(|choice| carried_by(q, choice))
+        .max()
+        .unwrap_or(0)
 }
 
 // The sum that a rule means, straight from the definitions.
-pub fn plain_sum(meaning: &Meaning, q: &Parts) -> u32 {
-    let handler = capped(
-        q,
-        workload(meaning.handler_cost, meaning.handler_gap, q.window),
-    );
-    let below = if meaning.limited {
-        plains(q, q.upper)
-            .saturating_add(carry_ins(q, q.lower))
+pub fn plain_sum(meaning: &Meaning, q: &Question) -> u32 {
+    let lower = total(q.lower, |r| carry_in(q, r));
+    let below = match meaning.bottom {
+        Bottom::Full => total(q.upper, |r| carry_in(q, r)).saturating_add(lower),
+        Bottom::Limited => total(q.upper, |r| plain(q, r))
+            .saturating_add(lower)
             .saturating_add(q.region.saturating_sub(1))
-            .saturating_add(carried(q))
-    } else {
-        carry_ins(q, q.upper).saturating_add(carry_ins(q, q.lower))
+            .saturating_add(carried(q)),
     };
-    below.saturating_add(handler)
+    match meaning.handler {
+        Some(i) => below.saturating_add(capped(q, workload(i.cost, i.gap, q.window))),
+        None => below,
+    }
 }

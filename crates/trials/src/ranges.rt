@@ -1,58 +1,77 @@
 use analysis::task::Task;
 use std::alloc::{AllocError, Global};
 
-// For each task, by number, the numbers from a least to a greatest one.
+// The numbers from a least to a greatest one.
+#[derive(Clone, Copy)]
+struct Span {
+    least: u32,
+    most: u32,
+}
+
+impl Span {
+    fn size(self) -> u32 {
+        self.most
+            .saturating_sub(self.least)
+            .saturating_add(1)
+            .max(1)
+    }
+}
+
+// A span of numbers for each task, by number.
 #[derive(Drop)]
 pub struct Ranges {
-    pub least: Vec<u32>,
-    pub most: Vec<u32>,
+    spans: Vec<Span>,
 }
 
 impl Ranges {
     // Region lengths: from 1 to the cost.
     pub fn lengths(heap: Global, tasks: &[Task]) -> Result<Ranges, AllocError> {
-        let mut least = Vec::new(heap);
-        let mut most = Vec::new(heap);
-        for t in tasks {
-            least.push(1)?;
-            most.push(t.cost)?;
-        }
-        Ok(Ranges { least, most })
+        let spans = tasks
+            .iter()
+            .map(|t| Span {
+                least: 1,
+                most: t.cost,
+            })
+            .collect(heap)?;
+        Ok(Ranges { spans })
     }
 
     // Bounds: from the cost to the deadline.
     pub fn bounds(heap: Global, tasks: &[Task]) -> Result<Ranges, AllocError> {
-        let mut least = Vec::new(heap);
-        let mut most = Vec::new(heap);
-        for t in tasks {
-            least.push(t.cost)?;
-            most.push(t.deadline)?;
-        }
-        Ok(Ranges { least, most })
+        let spans = tasks
+            .iter()
+            .map(|t| Span {
+                least: t.cost,
+                most: t.deadline,
+            })
+            .collect(heap)?;
+        Ok(Ranges { spans })
     }
 
-    fn size(&self, k: usize) -> u32 {
-        let least = self.least.get(k).copied().unwrap_or(0);
-        let most = self.most.get(k).copied().unwrap_or(0);
-        most.saturating_sub(least).saturating_add(1).max(1)
+    // The least number of each.
+    pub fn least(&self, heap: Global) -> Result<Vec<u32>, AllocError> {
+        self.spans.iter().map(|s| s.least).collect(heap)
     }
 
-    // How many ways there are to take a number from each range.
+    // The greatest number of each.
+    pub fn most(&self, heap: Global) -> Result<Vec<u32>, AllocError> {
+        self.spans.iter().map(|s| s.most).collect(heap)
+    }
+
+    // How many ways there are to take a number from each span.
     pub fn count(&self) -> u32 {
-        let mut all = 1u32;
-        for k in 0..self.least.len() {
-            all = all.saturating_mul(self.size(k));
-        }
-        all
+        self.spans
+            .iter()
+            .fold(1u32, |all, s| all.saturating_mul(s.size()))
     }
 
     // One of these ways, by its number from 0.
     pub fn nth(&self, heap: Global, number: u32) -> Result<Vec<u32>, AllocError> {
         let mut rest = number;
         let mut taken = Vec::new(heap);
-        for (k, x) in self.least.iter().enumerate() {
-            let size = self.size(k).max(1);
-            taken.push(x.saturating_add(rest % size))?;
+        for s in &self.spans {
+            let size = s.size().max(1);
+            taken.push(s.least.saturating_add(rest % size))?;
             rest = rest / size;
         }
         Ok(taken)

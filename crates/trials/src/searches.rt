@@ -1,9 +1,8 @@
+use crate::table::Table;
 use analysis::bounds::seek_bounds;
-use analysis::checks::{is_choice, is_order, is_task_set};
 use analysis::lengths::{quick_lengths, seek_lengths};
 use analysis::plan::{Plan, quick_plan, seek_plan};
-use analysis::task::Task;
-use analysis::task_set::{Arranged, Ordered, SmallSet, TaskSet};
+use analysis::task_set::{Ordered, SmallSet, TaskSet};
 use interference::rule::Rule;
 use interference::steady::SteadyRule;
 
@@ -41,63 +40,40 @@ impl<R: SteadyRule> Search<R> for Quick {
     }
 }
 
-// What a search answers on plain data.
+// The table, its order or its lengths are not within the limits.
 #[derive(Clone, Copy)]
-pub enum Answer<T> {
-    // the data is not within the limits
-    Refused,
-    Found(Option<T>),
+pub struct OutsideLimits;
+
+fn set_of(table: &Table) -> Result<TaskSet<'_>, OutsideLimits> {
+    TaskSet::check(table.cores, &table.tasks).ok_or(OutsideLimits)
 }
 
-pub fn lengths<'a, R: Rule, S: Search<R>>(
+pub fn lengths<R: Rule, S: Search<R>>(
     search: &S,
     rule: &R,
-    cores: u32,
-    tasks: &'a [Task],
-    order: &'a [usize],
-) -> Answer<[u32; 32]> {
-    if is_task_set(cores, tasks) {
-        if is_order(tasks.len(), order) {
-            let set = TaskSet { cores, tasks };
-            let ordered = Ordered { set, order };
-            return Answer::Found(search.lengths(rule, &ordered));
-        }
-    }
-    Answer::Refused
+    table: &Table,
+    order: &[usize],
+) -> Result<Option<[u32; 32]>, OutsideLimits> {
+    let ordered = set_of(table)?.ordered(order).ok_or(OutsideLimits)?;
+    Ok(search.lengths(rule, &ordered))
 }
 
 pub fn plan<R: Rule, S: Search<R>>(
     search: &S,
     rule: &R,
-    cores: u32,
-    tasks: &[Task],
-) -> Answer<Plan> {
-    if is_task_set(cores, tasks) {
-        if tasks.len() <= 8 {
-            let set = TaskSet { cores, tasks };
-            let small = SmallSet { set };
-            return Answer::Found(search.plan(rule, &small));
-        }
-    }
-    Answer::Refused
+    table: &Table,
+) -> Result<Option<Plan>, OutsideLimits> {
+    let small = set_of(table)?.small().ok_or(OutsideLimits)?;
+    Ok(search.plan(rule, &small))
 }
 
-pub fn bounds<'a, R: Rule>(
+pub fn bounds<R: Rule>(
     rule: &R,
-    cores: u32,
-    tasks: &'a [Task],
-    order: &'a [usize],
-    lengths: &'a [u32],
-) -> Answer<[u32; 32]> {
-    if is_task_set(cores, tasks) {
-        if is_order(tasks.len(), order) {
-            if is_choice(tasks, lengths) {
-                let set = TaskSet { cores, tasks };
-                let ordered = Ordered { set, order };
-                let arranged = Arranged { ordered, lengths };
-                return Answer::Found(seek_bounds(rule, &arranged));
-            }
-        }
-    }
-    Answer::Refused
+    table: &Table,
+    order: &[usize],
+    lengths: &[u32],
+) -> Result<Option<[u32; 32]>, OutsideLimits> {
+    let ordered = set_of(table)?.ordered(order).ok_or(OutsideLimits)?;
+    let arranged = ordered.arranged(lengths).ok_or(OutsideLimits)?;
+    Ok(seek_bounds(rule, &arranged))
 }

@@ -1,7 +1,7 @@
 use crate::dice::Dice;
 use analysis::task::Task;
 use std::alloc::{AllocError, Global};
-use std::io;
+use std::fmt;
 
 // Tasks on so many cores, by number.
 #[derive(Drop)]
@@ -21,23 +21,24 @@ fn roll_task(dice: &mut Dice) -> Task {
     }
 }
 
-// A table within all limits, small enough to try everything on it.
-pub fn roll_table(heap: Global, dice: &mut Dice, count: u32) -> Result<Table, AllocError> {
-    let cores = dice.roll(1, 3);
-    let mut tasks = Vec::new(heap);
-    for _ in 0..count {
-        tasks.push(roll_task(dice))?;
+impl Table {
+    // A table within all limits, small enough to try everything on it.
+    pub fn roll(heap: Global, dice: &mut Dice, count: u32) -> Result<Table, AllocError> {
+        let cores = dice.roll(1, 3);
+        let mut tasks = Vec::new(heap);
+        for _ in 0..count {
+            tasks.push(roll_task(dice))?;
+        }
+        Ok(Table { cores, tasks })
     }
-    Ok(Table { cores, tasks })
 }
 
-pub fn print_table(rt: &HostRuntime, cores: u32, tasks: &[Task]) -> io::Result<()> {
-    println!(rt; "  cores: {cores}")?;
-    for t in tasks {
-        println!(rt;
-            "  cost {}, deadline {}, period {}",
-            t.cost, t.deadline, t.period
-        )?;
+impl fmt::Display for Table {
+    fn fmt<W: fmt::Write>(&self, f: &mut fmt::Formatter<W>) -> fmt::Result {
+        write!(f, "  cores: {}", self.cores)?;
+        for t in &self.tasks {
+            write!(f, "\n  {t}")?;
+        }
+        Ok(())
     }
-    Ok(())
 }

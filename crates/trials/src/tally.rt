@@ -1,19 +1,16 @@
+use std::fmt;
+
 // So many differences of one kind are printed, and all are counted.
 const MOST_PRINTED: u32 = 3;
 
 // Comparisons of two numbers.
-#[derive(Clone, Copy)]
+#[derive(Clone, Copy, Default)]
 pub struct Checks {
     pub compared: u32,
     pub differed: u32,
 }
 
 impl Checks {
-    pub const EMPTY: Checks = Checks {
-        compared: 0,
-        differed: 0,
-    };
-
     // Says whether the comparison is to be printed.
     pub fn count(&mut self, agrees: bool) -> bool {
         self.compared = self.compared.saturating_add(1);
@@ -24,8 +21,14 @@ impl Checks {
     }
 }
 
+impl fmt::Display for Checks {
+    fn fmt<W: fmt::Write>(&self, f: &mut fmt::Formatter<W>) -> fmt::Result {
+        write!(f, "{} compared, {} differed", self.compared, self.differed)
+    }
+}
+
 // What trying everything comes to.
-#[derive(Clone, Copy)]
+#[derive(Clone, Copy, PartialEq, Eq)]
 pub enum Outcome {
     Nothing,
     // the first try is the result
@@ -33,23 +36,27 @@ pub enum Outcome {
     Later,
 }
 
+impl Outcome {
+    // After one more try that holds.
+    pub fn with_one_more(self, is_first: bool) -> Outcome {
+        match self {
+            _ if is_first => Outcome::AtOnce,
+            Outcome::Nothing => Outcome::Later,
+            _ => self,
+        }
+    }
+}
+
 // Results of one kind, by what trying everything came to, and how many times a search differed from that.
-#[derive(Clone, Copy)]
+#[derive(Clone, Copy, Default)]
 pub struct Tally {
-    pub nothing: u32,
-    pub at_once: u32,
-    pub later: u32,
-    pub differed: u32,
+    nothing: u32,
+    at_once: u32,
+    later: u32,
+    differed: u32,
 }
 
 impl Tally {
-    pub const EMPTY: Tally = Tally {
-        nothing: 0,
-        at_once: 0,
-        later: 0,
-        differed: 0,
-    };
-
     // Says whether the result is to be printed.
     pub fn count(&mut self, outcome: Outcome, agrees: bool) -> bool {
         match outcome {
@@ -63,35 +70,55 @@ impl Tally {
         !agrees && self.differed <= MOST_PRINTED
     }
 
-    pub fn compared(&self) -> u32 {
+    fn compared(&self) -> u32 {
         self.nothing
             .saturating_add(self.at_once)
             .saturating_add(self.later)
     }
 }
 
-// What was compared under one rule with one kind of search.
-#[derive(Clone, Copy)]
+impl fmt::Display for Tally {
+    fn fmt<W: fmt::Write>(&self, f: &mut fmt::Formatter<W>) -> fmt::Result {
+        let compared = self.compared();
+        write!(
+            f,
+            "{compared} compared ({} the first try, {} a later one, {} none), {} differed",
+            self.at_once, self.later, self.nothing, self.differed
+        )
+    }
+}
+
+// What was compared under one rule with one kind of search; there are no bounds where the kind does not seek them.
+#[derive(Clone, Copy, Default)]
 pub struct Scores {
     pub sums: Checks,
     pub lengths: Tally,
     pub plans: Tally,
-    pub bounds: Tally,
+    pub bounds: Option<Tally>,
 }
 
 impl Scores {
-    pub const EMPTY: Scores = Scores {
-        sums: Checks::EMPTY,
-        lengths: Tally::EMPTY,
-        plans: Tally::EMPTY,
-        bounds: Tally::EMPTY,
-    };
-
     pub fn differed(&self) -> u32 {
+        let bounds = match self.bounds {
+            Some(tally) => tally.differed,
+            None => 0,
+        };
         self.sums
             .differed
             .saturating_add(self.lengths.differed)
             .saturating_add(self.plans.differed)
-            .saturating_add(self.bounds.differed)
+            .saturating_add(bounds)
+    }
+}
+
+impl fmt::Display for Scores {
+    fn fmt<W: fmt::Write>(&self, f: &mut fmt::Formatter<W>) -> fmt::Result {
+        writeln!(f, "  sums: {}", self.sums)?;
+        writeln!(f, "  least lengths: {}", self.lengths)?;
+        write!(f, "  first plans: {}", self.plans)?;
+        match self.bounds {
+            Some(tally) => write!(f, "\n  least bounds: {tally}"),
+            None => Ok(()),
+        }
     }
 }

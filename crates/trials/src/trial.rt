@@ -1,172 +1,94 @@
-use crate::exhaust::{FirstPlan, first_plan, least_bounds, least_lengths};
-use crate::orders::{names_all, word, words};
+use crate::exhaust::FirstPlan;
+use crate::least::is_filled;
+use crate::orders::orders;
 use crate::ranges::Ranges;
-use crate::searches::{Answer, Search, bounds, lengths, plan};
-use crate::subject::Subject;
-use crate::table::print_table;
-use crate::tally::{Outcome, Scores};
+use crate::searches::{Search, bounds, lengths, plan};
+use crate::subject::Trial;
+use crate::tally::{Checks, Outcome, Scores, Tally};
 use analysis::plan::Plan;
-use analysis::task::Task;
 use interference::rule::Rule;
 use std::io;
 
-// In every order of the tasks: the least lengths.
-pub fn try_lengths<R: Rule, S: Search<R>>(
-    rt: &HostRuntime,
-    search: &S,
-    subject: &Subject<R>,
-    cores: u32,
-    tasks: &[Task],
-    scores: &mut Scores,
-) -> io::Result<()> {
-    for i in 0..words(tasks.len()) {
-        let order = word(rt.alloc(), tasks.len(), i)?;
-        if names_all(order.as_slice()) {
-            let least = least_lengths(
-                rt,
-                subject,
-                cores,
-                tasks,
-                order.as_slice(),
-                &mut scores.sums,
-            )?;
-            let agrees = match lengths(search, &subject.rule, cores, tasks, order.as_slice()) {
-                Answer::Found(found) => least.agrees(&found, 1),
-                Answer::Refused => false,
+impl<'a, R: Rule> Trial<'a, R> {
+    // In every order of the tasks: the least lengths.
+    pub fn try_lengths<S: Search<R>>(&self, search: &S, scores: &mut Scores) -> io::Result<()> {
+        for order in orders(self.rt.alloc(), self.table.tasks.len())? {
+            let least = self.least_lengths(&order, &mut scores.sums)?;
+            let agrees = match lengths(search, &self.subject.rule, self.table, &order) {
+                Ok(found) => least.agrees(found.as_ref(), 1),
+                Err(_) => false,
             };
-            if scores.lengths.count(least.outcome(), agrees) {
-                println!(rt; "Lengths differ in the order {order:?}")?;
-                print_table(rt, cores, tasks)?;
+            if scores.lengths.count(least.outcome, agrees) {
+                println!(self.rt; "Lengths differ in the order {order:?}\n{}", self.table)?;
             }
         }
+        Ok(())
     }
-    Ok(())
-}
 
-// The first plan.
-pub fn try_plan<R: Rule, S: Search<R>>(
-    rt: &HostRuntime,
-    search: &S,
-    subject: &Subject<R>,
-    cores: u32,
-    tasks: &[Task],
-    scores: &mut Scores,
-) -> io::Result<()> {
-    let first = first_plan(rt, subject, cores, tasks, &mut scores.sums)?;
-    let agrees = match plan(search, &subject.rule, cores, tasks) {
-        Answer::Found(found) => is_same_plan(&first, &found),
-        Answer::Refused => false,
-    };
-    let outcome = match &first {
-        Some(plan) => plan.outcome(),
-        None => Outcome::Nothing,
-    };
-    if scores.plans.count(outcome, agrees) {
-        println!(rt; "Plan differs")?;
-        print_table(rt, cores, tasks)?;
+    // The first plan.
+    pub fn try_plan<S: Search<R>>(&self, search: &S, scores: &mut Scores) -> io::Result<()> {
+        let first = self.first_plan(&mut scores.sums)?;
+        let agrees = match plan(search, &self.subject.rule, self.table) {
+            Ok(found) => is_same_plan(first.as_ref(), found.as_ref()),
+            Err(_) => false,
+        };
+        let outcome = match &first {
+            Some(plan) => plan.outcome(),
+            None => Outcome::Nothing,
+        };
+        if scores.plans.count(outcome, agrees) {
+            println!(self.rt; "Plan differs\n{}", self.table)?;
+        }
+        Ok(())
     }
-    Ok(())
-}
 
-fn is_same_plan(first: &Option<FirstPlan>, found: &Option<Plan>) -> bool {
-    match first {
-        None => found.is_none(),
-        Some(expected) => match found {
-            None => false,
-            Some(plan) => {
-                is_same_order(&plan.order, expected.order.as_slice())
-                    && expected.lengths.agrees(&Some(plan.lengths), 1)
+    // The least bounds, in every order of the tasks: with the shortest regions, the longest ones, and the least that
+    // pass.
+    pub fn try_bounds(&self, sums: &mut Checks, tally: &mut Tally) -> io::Result<()> {
+        let heap = self.rt.alloc();
+        let all = Ranges::lengths(heap, &self.table.tasks)?;
+        let shortest = all.least(heap)?;
+        let longest = all.most(heap)?;
+        for order in orders(heap, self.table.tasks.len())? {
+            self.try_bounds_with(&order, &shortest, sums, tally)?;
+            self.try_bounds_with(&order, &longest, sums, tally)?;
+            let least = self.least_lengths(&order, sums)?;
+            if least.outcome != Outcome::Nothing {
+                self.try_bounds_with(&order, &least.values, sums, tally)?;
             }
-        },
-    }
-}
-
-fn is_same_order(found: &[usize; 8], order: &[usize]) -> bool {
-    for (p, x) in found.iter().enumerate() {
-        if *x != order.get(p).copied().unwrap_or(0) {
-            return false;
         }
+        Ok(())
     }
-    true
-}
 
-// The least bounds, in every order of the tasks.
-pub fn try_bounds<R: Rule>(
-    rt: &HostRuntime,
-    subject: &Subject<R>,
-    cores: u32,
-    tasks: &[Task],
-    scores: &mut Scores,
-) -> io::Result<()> {
-    for i in 0..words(tasks.len()) {
-        let order = word(rt.alloc(), tasks.len(), i)?;
-        if names_all(order.as_slice()) {
-            try_bounds_in(rt, subject, cores, tasks, order.as_slice(), scores)?;
+    fn try_bounds_with(
+        &self,
+        order: &[usize],
+        lens: &[u32],
+        sums: &mut Checks,
+        tally: &mut Tally,
+    ) -> io::Result<()> {
+        let least = self.least_bounds(order, lens, sums)?;
+        let agrees = match bounds(&self.subject.rule, self.table, order, lens) {
+            Ok(found) => least.agrees(found.as_ref(), 0),
+            Err(_) => false,
+        };
+        if tally.count(least.outcome, agrees) {
+            println!(self.rt;
+                "Bounds differ in the order {order:?} with the lengths {lens:?}\n{}",
+                self.table
+            )?;
         }
+        Ok(())
     }
-    Ok(())
 }
 
-// In one order: with the shortest regions, the longest ones, and the least that pass.
-fn try_bounds_in<R: Rule>(
-    rt: &HostRuntime,
-    subject: &Subject<R>,
-    cores: u32,
-    tasks: &[Task],
-    order: &[usize],
-    scores: &mut Scores,
-) -> io::Result<()> {
-    let all = Ranges::lengths(rt.alloc(), tasks)?;
-    try_bounds_with(
-        rt,
-        subject,
-        cores,
-        tasks,
-        order,
-        all.least.as_slice(),
-        scores,
-    )?;
-    try_bounds_with(
-        rt,
-        subject,
-        cores,
-        tasks,
-        order,
-        all.most.as_slice(),
-        scores,
-    )?;
-    let least = least_lengths(rt, subject, cores, tasks, order, &mut scores.sums)?;
-    if least.any {
-        try_bounds_with(
-            rt,
-            subject,
-            cores,
-            tasks,
-            order,
-            least.values.as_slice(),
-            scores,
-        )?;
+fn is_same_plan(first: Option<&FirstPlan>, found: Option<&Plan>) -> bool {
+    match (first, found) {
+        (None, None) => true,
+        (Some(expected), Some(plan)) => {
+            is_filled(&plan.order, &expected.order, 0)
+                && expected.lengths.agrees(Some(&plan.lengths), 1)
+        }
+        _ => false,
     }
-    Ok(())
-}
-
-fn try_bounds_with<R: Rule>(
-    rt: &HostRuntime,
-    subject: &Subject<R>,
-    cores: u32,
-    tasks: &[Task],
-    order: &[usize],
-    lens: &[u32],
-    scores: &mut Scores,
-) -> io::Result<()> {
-    let least = least_bounds(rt, subject, cores, tasks, order, lens, &mut scores.sums)?;
-    let agrees = match bounds(&subject.rule, cores, tasks, order, lens) {
-        Answer::Found(found) => least.agrees(&found, 0),
-        Answer::Refused => false,
-    };
-    if scores.bounds.count(least.outcome(), agrees) {
-        println!(rt; "Bounds differ in the order {order:?} with the lengths {lens:?}")?;
-        print_table(rt, cores, tasks)?;
-    }
-    Ok(())
 }
