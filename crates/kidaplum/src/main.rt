@@ -15,13 +15,7 @@ fn main(rt: HostRuntime) -> io::Result<()> {
         TASKS.len()
     )?;
     for (k, t) in TASKS.iter().enumerate() {
-        println!(rt;
-            "  task {}: cost {}, deadline {}, period {}",
-            k + 1,
-            t.cost,
-            t.deadline,
-            t.period
-        )?;
+        println!(rt; "  task {}: {t}", k + 1)?;
     }
     plan(&rt, CORES, &TASKS)
 }
