@@ -7,22 +7,12 @@ use crate::tally::{Checks, Outcome};
 use interference::rule::Rule;
 use std::io;
 
-// An order, the least lengths in it, and whether it is the first order of all.
+// An order, the least lengths in it, and what trying everything came to.
 #[derive(Drop)]
 pub struct FirstPlan {
     pub order: Vec<usize>,
     pub lengths: Least,
-    at_once: bool,
-}
-
-impl FirstPlan {
-    pub fn outcome(&self) -> Outcome {
-        if self.at_once {
-            self.lengths.outcome
-        } else {
-            Outcome::Later
-        }
-    }
+    pub outcome: Outcome,
 }
 
 impl<'a, R: Rule> Trial<'a, R> {
@@ -66,17 +56,21 @@ impl<'a, R: Rule> Trial<'a, R> {
 
     // Tries all orders, and in each all lengths, up to the first order in which some lengths pass.
     pub fn first_plan(&self, sums: &mut Checks) -> io::Result<Option<FirstPlan>> {
-        let mut at_once = true;
-        for order in orders(self.rt.alloc(), self.table.tasks.len())? {
+        for (i, order) in orders(self.rt.alloc(), self.table.tasks.len())?
+            .into_iter()
+            .enumerate()
+        {
             let lengths = self.least_lengths(&order, sums)?;
-            if lengths.outcome != Outcome::Nothing {
-                return Ok(Some(FirstPlan {
-                    order,
-                    lengths,
-                    at_once,
-                }));
-            }
-            at_once = false;
+            let outcome = match lengths.outcome {
+                Outcome::Nothing => continue,
+                tried if i == 0 => tried,
+                _ => Outcome::Later,
+            };
+            return Ok(Some(FirstPlan {
+                order,
+                lengths,
+                outcome,
+            }));
         }
         Ok(None)
     }

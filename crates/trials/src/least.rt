@@ -3,13 +3,12 @@ use crate::tally::Outcome;
 use std::alloc::Global;
 use std::io;
 
-// What trying everything leaves of the lists that hold: what it came to, the least number in each place over all of
-// them, and whether these least numbers hold together.
+// What trying everything leaves of the lists that hold: what it came to, and the least number in each place over all
+// of them. Nothing where there is no such list, or where these least numbers do not hold together.
 #[derive(Drop)]
 pub struct Least {
     pub outcome: Outcome,
-    pub values: Vec<u32>,
-    holds: bool,
+    pub values: Option<Vec<u32>>,
 }
 
 impl Least {
@@ -30,23 +29,20 @@ impl Least {
                 lower(&mut values, &list);
             }
         }
-        let together = holds(&values)?;
-        Ok(Least {
-            outcome,
-            values,
-            holds: together,
-        })
+        let values = if holds(&values)? && outcome != Outcome::Nothing {
+            Some(values)
+        } else {
+            None
+        };
+        Ok(Least { outcome, values })
     }
 
     // Whether a search found just this, filled up behind the last task.
     pub fn agrees(&self, found: Option<&[u32; 32]>, filler: u32) -> bool {
-        match found {
-            None => self.outcome == Outcome::Nothing,
-            Some(list) => {
-                self.outcome != Outcome::Nothing
-                    && self.holds
-                    && is_filled(list, &self.values, filler)
-            }
+        match (found, &self.values) {
+            (None, _) => self.outcome == Outcome::Nothing,
+            (Some(list), Some(values)) => is_filled(list, values, filler),
+            _ => false,
         }
     }
 }

@@ -33,7 +33,7 @@ impl<'a, R: Rule> Trial<'a, R> {
             Err(_) => false,
         };
         let outcome = match &first {
-            Some(plan) => plan.outcome(),
+            Some(plan) => plan.outcome,
             None => Outcome::Nothing,
         };
         if scores.plans.count(outcome, agrees) {
@@ -53,8 +53,8 @@ impl<'a, R: Rule> Trial<'a, R> {
             self.try_bounds_with(&order, &shortest, sums, tally)?;
             self.try_bounds_with(&order, &longest, sums, tally)?;
             let least = self.least_lengths(&order, sums)?;
-            if least.outcome != Outcome::Nothing {
-                self.try_bounds_with(&order, &least.values, sums, tally)?;
+            if let Some(values) = &least.values {
+                self.try_bounds_with(&order, values, sums, tally)?;
             }
         }
         Ok(())
