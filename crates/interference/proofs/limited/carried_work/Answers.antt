@@ -16,11 +16,8 @@ overflow_sub-carry_in c =
     let r = rival_at c.args.q.now.upper.now c.loop-r.r-index in
     omega (arith, plain_carry (query c.args.q.now) r (c.args.q.now.uppers c.loop-r.r-index c.loop-r-test.true), c.of-plain.ensures, c.of-carry_in.ensures)
 
-pub with_choice-best-requires : goal.with_choice-best-requires
-with_choice-best-requires c = record {
-  low = omega (arith, c.of-carry_in.ensures);
-  small = λ k h. omega (arith, c.loop-r.invariant k h, small (query c.args.q.now) c.args.q.now.times c.args.q.now.upper.now k c.loop-r.r-index (omega (arith, c.args.q.now.sizes)));
-}
+pub with_choice-best-requires-clause-small : goal.with_choice-best-requires-clause-small
+with_choice-best-requires-clause-small c = λ k h. omega (arith, c.loop-r.invariant k h, small (query c.args.q.now) c.args.q.now.times c.args.q.now.upper.now k c.loop-r.r-index (omega (arith, c.args.q.now.sizes)))
 
 pub loop-r-preserved : goal.loop-r-preserved
 loop-r-preserved c zero h =
