@@ -26,25 +26,36 @@ pub struct Ranges {
 impl Ranges {
     // Region lengths: from 1 to the cost.
     pub fn lengths(heap: Global, tasks: &[Task]) -> Result<Ranges, AllocError> {
-        let spans = tasks
-            .iter()
-            .map(|t| Span {
+        Ranges::each(
+            heap,
+            tasks,
+            |t| Span {
                 least: 1,
                 most: t.cost,
-            })
-            .collect(heap)?;
-        Ok(Ranges { spans })
+            },
+        )
     }
 
     // Bounds: from the cost to the deadline.
     pub fn bounds(heap: Global, tasks: &[Task]) -> Result<Ranges, AllocError> {
-        let spans = tasks
-            .iter()
-            .map(|t| Span {
+        Ranges::each(
+            heap,
+            tasks,
+            |t| Span {
                 least: t.cost,
                 most: t.deadline,
-            })
-            .collect(heap)?;
+            },
+        )
+    }
+
+    fn each<F: Fn(&Task) -> Span>(
+        heap: Global,
+        tasks: &[Task],
+        span: F,
+    ) -> Result<Ranges, AllocError>
+        requires pre { (f : _) (a : _) → F.FnMut.pre f a }
+    {
+        let spans = tasks.iter().map(span).collect(heap)?;
         Ok(Ranges { spans })
     }
 
