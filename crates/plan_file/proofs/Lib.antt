@@ -1,3 +1,4 @@
 pub mod OnCalls
 pub mod OnTables
 pub mod OneAnswer
+pub mod OnAnswers

@@ -1,6 +1,6 @@
 -- What a table holds makes a file that can be read.
-use Rattle.std.proofs.Common.{◌≡◌, ℕ, ◌+◌, ◌-◌, ◌<◌, List, [], ◌∷◌, reverse, length, get_or, take, drop, Ok, Err, Result, sym, refl, ap, ◌∙◌, subst, arith}
-use Rattle.std.proofs.lemmas.List.{length-map, length-reverse, get_or-map, get_or-take, take-map, same_lists, length-take-le, get_or_append_left, get_or_default}
+use Rattle.std.proofs.Common.{◌≡◌, ℕ, ◌+◌, ◌-◌, ◌<◌, List, [], ◌∷◌, map, reverse, length, get_or, take, drop, Ok, Err, Result, sym, refl, ap, ◌∙◌, subst, arith}
+use Rattle.std.proofs.lemmas.List.{length-map, length-reverse, get_or-map, take-map, take_at, get_or_default}
 use Rattle.analysis.specs.Rivals.{among}
 use Rattle.planner.specs.declared.marks.Marks.{Marks}
 use Rattle.planner.specs.declared.refusal.Refusal.{Refusal}
@@ -8,18 +8,8 @@ use Rattle.planner.specs.Tables.{Open, Fixed}
 use Rattle.planner.specs.Reading.{OpenWithinLimits, FixedWithinLimits, ReadsOut, Lent, lent, over, standing, as_standing, Room}
 use Rattle.table_file.specs.declared.place.Place.{Place}
 use Rattle.table_file.specs.Stored.{Stored, of_open, of_fixed, placed, numbers, no_place, PlaceFits, EachFits, Valid}
-use Rattle.table_file.specs.Puts.{paired, Writable}
+use Rattle.table_file.specs.Puts.{paired}
 use Rattle.table_file.proofs.Distinct.{fresh_apart, standing_apart, standing_named, length_standing}
-
-pub open_valid : (m : Open) → OpenWithinLimits m → Valid (of_open m)
-open_valid m w = record {
-  some = w.some;
-  most = w.most;
-  few = w.few;
-  tasks = w.tasks;
-  whole = (λ z. absurd (omega arith));
-  each = (λ p z. absurd (omega arith));
-}
 
 -- the numbers of places that were made of numbers
 pub numbers_placed : (xs lens : List ℕ) → numbers (placed xs lens) ≡ xs
@@ -34,6 +24,13 @@ getD_placed xs lens p l = get_or-map (λ n. record { task = n; length = get_or l
 
 pub length_placed : (xs lens : List ℕ) → length (placed xs lens) ≡ length xs
 length_placed xs lens = length-map xs (λ n. record { task = n; length = get_or lens (n - 1) 0 })
+
+-- numbers from 1 and their lengths, entry by entry
+paired_standing : (r lens : List ℕ) → paired (map (λ k. k + 1) r) (map (λ k. get_or lens k 0) r) ≡ placed (map (λ k. k + 1) r) lens
+paired_standing [] lens = refl
+paired_standing (k ∷ ks) lens =
+    let e : k ≡ k + 1 - 1 = omega arith in
+    λ i. record { task = k + 1; length = get_or lens (e i) 0 } ∷ paired_standing ks lens i
 
 module _ (m : Fixed) (w : FixedWithinLimits m) where
   size : length (standing m.order) ≡ length m.tasks
@@ -71,36 +68,11 @@ module _ (m : Fixed) (w : FixedWithinLimits m) where
   read_filled (Ok x) old new h room = (ap (λ l. l.tasks) h.3, ap (λ l. l.lengths) h.3)
   read_filled (Err e) old new h room = absurd (h.1 room)
 
-  pub read_places : (a b xs ys : List ℕ) (ps : List Place) → xs ≡ over (standing m.order) a → ys ≡ over (as_standing m.order m.lengths) b → length ps ≡ 32
-      → ((k : ℕ) → k < 32 → get_or ps k no_place ≡ paired xs ys k) → take (length m.tasks) ps ≡ (of_fixed m).places
-  read_places a b xs ys ps ex ey n h =
-      same_lists (take (length m.tasks) ps) (of_fixed m).places
-      (length-take-le (length m.tasks) ps (omega (arith, w.few)) ∙ sym places_count)
-      (λ k d l. at k d (omega (arith, length-take-le (length m.tasks) ps (omega (arith, w.few)))))
-    where
-      at : (k : ℕ) (d : Place) → k < length m.tasks → get_or (take (length m.tasks) ps) k d ≡ get_or (of_fixed m).places k d
-      at k d l =
-          let q : List ℕ = m.order in
-          let o : length q ≡ length m.tasks = w.order.0 in
-          let s : length (standing q) ≡ length q = length_standing q in
-          let first : get_or xs k 0 ≡ get_or (standing q) k 0 = ap (λ l. get_or l k 0) ex ∙ get_or_append_left (standing q) (drop (length (standing q)) a) 0 k (omega arith) in
-          let c : length (as_standing q m.lengths) ≡ length q = length-map (reverse q) (λ j. get_or m.lengths j 0) ∙ length-reverse q in
-          let g : get_or (standing q) k 0 ≡ get_or (reverse q) k 0 + 1 = get_or-map (λ j. j + 1) (reverse q) k 0 0 (omega (arith, length-reverse q)) in
-          let second : get_or ys k 0 ≡ get_or m.lengths (get_or (standing q) k 0 - 1) 0 =
-          ap (λ l. get_or l k 0) ey
-          ∙ get_or_append_left (as_standing q m.lengths) (drop (length (as_standing q m.lengths)) b) 0 k (omega arith)
-          ∙ get_or-map (λ j. get_or m.lengths j 0) (reverse q) k 0 0 (omega (arith, length-reverse q))
-          ∙ ap (λ j. get_or m.lengths j 0) (omega arith) in
-          get_or-take (length m.tasks) ps k d l
-          ∙ get_or_default ps k d no_place (omega (arith, w.few))
-          ∙ h k (omega (arith, w.few))
-          ∙ (λ i. record { task = first i; length = second i })
-          ∙ sym (getD_placed (standing q) m.lengths k (omega arith))
-          ∙ get_or_default (of_fixed m).places k no_place d (omega (arith, places_count))
-
--- valid places can be written
-pub writable : (s : Stored) → Valid s → Writable s.places
-writable s v k l =
-    let f = v.each k l in
-    let w = v.tasks ((get_or s.places k no_place).task - 1) (omega arith) in
-    (omega (arith, f.0.1, v.few), omega (arith, f.3, w.1, w.2, w.3))
+  pub read_places : (a b xs ys : List ℕ) → xs ≡ over (standing m.order) a → ys ≡ over (as_standing m.order m.lengths) b
+      → (n : ℕ) → n ≡ length m.tasks → paired (take n xs) (take n ys) ≡ (of_fixed m).places
+  read_places a b xs ys ex ey n is =
+      let q : List ℕ = m.order in
+      let c : length (as_standing q m.lengths) ≡ length q = length-map (reverse q) (λ j. get_or m.lengths j 0) ∙ length-reverse q in
+      let first : take n xs ≡ standing q = ap (take n) ex ∙ take_at (standing q) (drop (length (standing q)) a) n (omega (arith, size)) in
+      let second : take n ys ≡ as_standing q m.lengths = ap (take n) ey ∙ take_at (as_standing q m.lengths) (drop (length (as_standing q m.lengths)) b) n (omega (arith, w.order.0)) in
+      (λ i. paired (first i) (second i)) ∙ paired_standing (reverse q) m.lengths

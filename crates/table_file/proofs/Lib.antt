@@ -14,6 +14,7 @@ pub mod OnPuts
 pub mod Distinct
 pub mod Carried
 pub mod Written
+pub mod Pairs
 pub mod Turns
 pub mod Phases
 pub mod Ranges

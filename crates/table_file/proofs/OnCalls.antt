@@ -1,6 +1,8 @@
 -- Calls on tables that are not refused.
-use Rattle.std.proofs.Common.{◌≡◌, ℕ, ◌+◌, ◌<◌, ◌≤◌, List, [], ◌∷◌, ◌++◌, length, get_or, take, drop, Ok, Err, Result, sym, ap, ◌∙◌, ⊎_elim, arith}
+use Rattle.std.proofs.Common.{◌≡◌, ℕ, ◌+◌, ◌<◌, ◌≤◌, true, false, List, [], ◌∷◌, ◌++◌, length, get_or, take, drop, Ok, Err, Result, sym, ap, ◌∙◌, ⊎_elim, arith}
 use Rattle.std.proofs.lemmas.List.{take_more, append_assoc, nil_from_length, length-append, length-take-le}
+use Rattle.std.proofs.lemmas.Bool.{cases_lt, false≢true}
+use Rattle.std.specs.Result.{is_ok}
 use Rattle.analysis.specs.declared.task.Task.{Task}
 use Rattle.analysis.specs.Rivals.{TaskWithinLimits}
 use Rattle.planner.specs.declared.refusal.Refusal.{Refusal}
@@ -12,13 +14,20 @@ pub not_refused : {A M : Type 0} (r : Result A Refusal) (refuses : ℕ → Type 
 not_refused (Ok x) refuses makes before after h n = h
 not_refused (Err e) refuses makes before after h n = absurd (n (number e) h.0)
 
+-- the first task is struck, or there is none
+module _ {A : Type 0} (before after : Open) where
+  pub struck : (r : Result A Refusal) → Called r (StrikeRefuses before 1) (StrikeMakes before 1) before after → true ≡ is_ok r
+      → (0 < length before.tasks) × (after ≡ opened before.cores (drop 1 before.tasks))
+  struck (Ok x) h e = (omega (arith, h.0.1), h.1)
+  struck (Err f) h e = absurd (false≢true (sym e))
+
+  pub emptied : (r : Result A Refusal) → Called r (StrikeRefuses before 1) (StrikeMakes before 1) before after → false ≡ is_ok r → (m : ℕ) → before.cores ≡ m → after ≡ opened m []
+  emptied (Ok x) h e m is = absurd (false≢true e)
+  emptied (Err f) h e m is =
+      let none : length before.tasks ≡ 0 = ⊎_elim (λ some. absurd (h.0.1 (omega arith, omega arith))) (λ n. omega arith) (cases_lt 0 (length before.tasks)) in
+      h.1 ∙ (λ i. opened (is i) (nil_from_length before.tasks none i))
+
 module _ {A : Type 0} (r : Result A Refusal) (before after : Open) where
-  pub struck : Called r (StrikeRefuses before 1) (StrikeMakes before 1) before after → 0 < length before.tasks → after ≡ opened before.cores (drop 1 before.tasks)
-  struck h some = (not_refused r (StrikeRefuses before 1) (StrikeMakes before 1) before after h (λ k z. z.1 (omega arith, omega arith))).1
-
-  pub set_cores : (c : ℕ) → Called r (CoresRefuses before c) (CoresMakes before c) before after → CoresWithinLimits c → after ≡ opened c before.tasks
-  set_cores c h within = (not_refused r (CoresRefuses before c) (CoresMakes before c) before after h (λ k z. z.1 within)).1
-
   pub entered : (t : Task) → Called r (EnterRefuses before t) (EnterMakes before t) before after → length before.tasks < 32 → TaskWithinLimits t → after ≡ opened before.cores (before.tasks ++ t ∷ [])
   entered t h room within =
       (not_refused r (EnterRefuses before t) (EnterMakes before t) before after h
@@ -32,6 +41,3 @@ module _ {A : Type 0} (r : Result A Refusal) (before after : Open) where
       entered (get_or us i d) h n within
       ∙ ap (λ o. opened o.cores (o.tasks ++ get_or us i d ∷ [])) is
       ∙ ap (opened m) (append_assoc ts (take i us) (get_or us i d ∷ []) ∙ ap (λ l. ts ++ l) (sym (take_more us i d l)))
-
-pub emptied : (o : Open) (m : ℕ) → o.cores ≡ m → length o.tasks ≡ 0 → o ≡ opened m []
-emptied o m e n = λ i. opened (e i) (nil_from_length o.tasks n i)

@@ -132,10 +132,3 @@ place_text ds h kind len =
 
 pub place_back : (p : Place) → p.task < 256 → p.length < 65536 → place_of (drop 2 (place_frame p)) ≡ p
 place_back p a b = λ i. record { task = byte_back p.task a i; length = word_back p.length b i }
-
--- the words of a text are small
-pub word_below : (ds : List ℕ) (i : ℕ) → AllDigits ds → i + 4 ≤ length ds → word_at ds i < 65536
-word_below ds i h l =
-    let a = byte_below (get_or ds i 0) (get_or ds (i + 1) 0) (h i (omega arith)) (h (i + 1) (omega arith)) in
-    let b = byte_below (get_or ds (i + 2) 0) (get_or ds (i + 2 + 1) 0) (h (i + 2) (omega arith)) (h (i + 2 + 1) (omega arith)) in
-    omega arith

@@ -10,26 +10,32 @@ abbrev parts : List ℕ → List ℕ
 parts ds = take (length ds - 2) (drop 2 ds)
 
 module _ (ds : List ℕ) (ln k : ℕ) (is : k ≡ 16 * value (get_or ds 0 0) + value (get_or ds 1 0)) where
-  same : parts ds ≡ drop 2 ds
-  same = take_rest ds 2
+  kind_is : (j : ℕ) → j ≡ k → eqb (byte_at ds 0) j ≡ true
+  kind_is j e = eq-eqb (byte_at ds 0) j (sym is ∙ sym e)
 
-  kind_is : (j : ℕ) → k ≡ j → eqb (byte_at ds 0) j ≡ true
-  kind_is j e = eq-eqb (byte_at ds 0) j (sym is ∙ e)
+  kind_not : (i j : ℕ) → i ≡ k → (i ≡ j → ⊥) → eqb (byte_at ds 0) j ≡ false
+  kind_not i j e n = ne_eqb (byte_at ds 0) j (λ q. n (e ∙ is ∙ q))
 
-  kind_not : (j : ℕ) → (k ≡ j → ⊥) → eqb (byte_at ds 0) j ≡ false
-  kind_not j e = ne_eqb (byte_at ds 0) j (λ q. e (is ∙ q))
+  -- fields that are the digits past the kind, with the line
+  module _ (fs : List ℕ) (l : ℕ) (n : ℕ) (f : (length (parts ds) ≡ n) × (fs ≡ parts ds) × (l ≡ ln)) where
+    same : fs ≡ drop 2 ds
+    same = f.1 ∙ take_rest ds 2
 
-  size_is : (n : ℕ) → length (parts ds) ≡ n → eqb (length (drop 2 ds)) n ≡ true
-  size_is n e = eq-eqb _ _ (sym (ap length same) ∙ e)
+    size_is : eqb (length (drop 2 ds)) n ≡ true
+    size_is = eq-eqb _ _ (sym (ap length (take_rest ds 2)) ∙ f.0)
 
-  pub is_cores : k ≡ 1 → length (parts ds) ≡ 2 → Ok (cores (parts ds) ln) ≡ form_of ds ln
-  is_cores e n = ap (λ l. Ok (cores l ln)) same ∙ sym (cond-true _ _ _ (kind_is 1 e) ∙ cond-true _ _ _ (size_is 2 n))
+  pub is_cores : 1 ≡ k → (fs : List ℕ) (l : ℕ) → (length (parts ds) ≡ 2) × (fs ≡ parts ds) × (l ≡ ln) → Ok (cores fs l) ≡ form_of ds ln
+  is_cores e fs l f = (λ i. Ok (cores (same fs l 2 f i) (f.2 i))) ∙ sym (cond-true _ _ _ (kind_is 1 e) ∙ cond-true _ _ _ (size_is fs l 2 f))
 
-  pub is_task : k ≡ 2 → length (parts ds) ≡ 12 → Ok (task (parts ds) ln) ≡ form_of ds ln
-  is_task e n = ap (λ l. Ok (task l ln)) same ∙ sym (cond-false _ _ _ (kind_not 1 (λ z. omega arith)) ∙ cond-true _ _ _ (kind_is 2 e) ∙ cond-true _ _ _ (size_is 12 n))
+  pub is_task : 2 ≡ k → (fs : List ℕ) (l : ℕ) → (length (parts ds) ≡ 12) × (fs ≡ parts ds) × (l ≡ ln) → Ok (task fs l) ≡ form_of ds ln
+  is_task e fs l f =
+      (λ i. Ok (task (same fs l 12 f i) (f.2 i)))
+      ∙ sym (cond-false _ _ _ (kind_not 2 1 e (λ z. omega arith)) ∙ cond-true _ _ _ (kind_is 2 e) ∙ cond-true _ _ _ (size_is fs l 12 f))
 
-  pub is_place : k ≡ 3 → length (parts ds) ≡ 6 → Ok (place (parts ds) ln) ≡ form_of ds ln
-  is_place e n = ap (λ l. Ok (place l ln)) same ∙ sym (cond-false _ _ _ (kind_not 1 (λ z. omega arith)) ∙ cond-false _ _ _ (kind_not 2 (λ z. omega arith)) ∙ cond-true _ _ _ (kind_is 3 e) ∙ cond-true _ _ _ (size_is 6 n))
+  pub is_place : 3 ≡ k → (fs : List ℕ) (l : ℕ) → (length (parts ds) ≡ 6) × (fs ≡ parts ds) × (l ≡ ln) → Ok (place fs l) ≡ form_of ds ln
+  is_place e fs l f =
+      (λ i. Ok (place (same fs l 6 f i) (f.2 i)))
+      ∙ sym (cond-false _ _ _ (kind_not 3 1 e (λ z. omega arith)) ∙ cond-false _ _ _ (kind_not 3 2 e (λ z. omega arith)) ∙ cond-true _ _ _ (kind_is 3 e) ∙ cond-true _ _ _ (size_is fs l 6 f))
 
 pub parts_hex : (ds : List ℕ) → AllDigits ds → AllDigits (parts ds)
 parts_hex ds h i l =

@@ -4,9 +4,6 @@ use Rattle.std.proofs.lemmas.List.{append_assoc, set_split, take_at, drop_at, dr
 use Rattle.planner.specs.Reading.{over}
 use Rattle.table_file.specs.Puts.{put}
 
-pub put_one : (old : List ℕ) (at x : ℕ) → at < length old → set old at x ≡ put (x ∷ []) at old
-put_one old at x h = set_split old at x h ∙ ap (λ n. take at old ++ x ∷ drop n old) (sym (add-one at))
-
 module _ (ys zs old : List ℕ) (at : ℕ) (h : at + length ys ≤ length old) where
   front : List ℕ
   front = take at old ++ ys

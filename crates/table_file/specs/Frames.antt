@@ -1,5 +1,5 @@
 -- Frames: the kind byte of each, and the frame that a line of digits is.
-use Rattle.std.specs.Prelude.{◌≡◌, ℕ, ◌*◌, cond, List, length, drop, Ok, Err, Result, ◌==◌}
+use Rattle.std.specs.Prelude.{ℕ, ◌*◌, cond, List, length, drop, Ok, Err, Result, ◌==◌}
 use Rattle.analysis.specs.declared.task.Task.{Task}
 use Rattle.table_file.specs.declared.fault.Number.TheVariants.{Kind, Size}
 use Rattle.table_file.specs.declared.fault.Fault.{Fault}
@@ -7,7 +7,7 @@ use Rattle.table_file.specs.declared.place.Place.{Place}
 use Rattle.table_file.specs.declared.frames.Frame.{Frame}
 use Rattle.table_file.specs.declared.frames.Frame.TheVariants as variant
 use Rattle.table_file.specs.Numbers.{fault_at}
-use Rattle.table_file.specs.Digits.{byte_at, word_at, AllDigits}
+use Rattle.table_file.specs.Digits.{byte_at, word_at}
 
 -- a frame by its kind, with the digits of its fields and its line
 pub data Form : Type 0 where
@@ -16,15 +16,9 @@ pub data Form : Type 0 where
   place : List ℕ → ℕ → Form
 
 abbrev pub meaning : Frame → Form
-meaning (variant.Cores d l) = cores d.now l
-meaning (variant.Task d l) = task d.now l
-meaning (variant.Place d l) = place d.now l
-
--- the kind byte of each frame
-abbrev pub kind_of : Frame → ℕ
-kind_of (variant.Cores d l) = 1
-kind_of (variant.Task d l) = 2
-kind_of (variant.Place d l) = 3
+meaning (variant.Cores f) = cores f.digits.now f.line
+meaning (variant.Task f) = task f.digits.now f.line
+meaning (variant.Place f) = place f.digits.now f.line
 
 -- the digits of the fields, two for each byte
 abbrev pub fields : List ℕ → List ℕ
@@ -46,12 +40,6 @@ task_of ds = record { cost = word_at ds 0; deadline = word_at ds 4; period = wor
 
 abbrev pub place_of : List ℕ → Place
 place_of ds = record { task = byte_at ds 0; length = word_at ds 2 }
-
--- what a frame that was made of a line keeps
-abbrev pub Made : Form → Type 0
-Made (cores ds ln) = (length ds ≡ 2) × AllDigits ds
-Made (task ds ln) = (length ds ≡ 12) × AllDigits ds
-Made (place ds ln) = (length ds ≡ 6) × AllDigits ds
 
 -- the code's answer by what it means
 abbrev pub seen_frame : Result Frame Fault → Result Form Fault

@@ -1,4 +1,5 @@
 pub mod Numbers
+pub mod Kinds
 pub mod Digits
 pub mod Lines
 pub mod Frames

@@ -2,7 +2,7 @@
 use Rattle.std.specs.Prelude.{ℕ, suc, ◌+◌, ◌%◌, Bool, true, false, cond, not, ◌&&◌, List, [], ◌∷◌, length, take, drop, Ok, Err, Result, ◌==◌, nat_lt}
 use Rattle.table_file.specs.declared.fault.Number.TheVariants.{Digit, Line}
 use Rattle.table_file.specs.declared.fault.Fault.{Fault}
-use Rattle.table_file.specs.declared.lines.Stretch.{Stretch}
+use Rattle.table_file.specs.declared.stretch.Stretch.{Stretch}
 use Rattle.table_file.specs.Numbers.{fault_at}
 use Rattle.table_file.specs.Digits.{is_digit}
 

@@ -1,5 +1,5 @@
 -- What was read so far, and what one frame more makes of it.
-use Rattle.std.specs.Prelude.{◌≡◌, ℕ, ◌≤◌, Bool, cond, ◌&&◌, ◌||◌, List, [], ◌∷◌, ◌++◌, length, take, Ok, Err, Result, ◌==◌, nat_le, nat_lt}
+use Rattle.std.specs.Prelude.{◌≡◌, ℕ, Bool, cond, ◌&&◌, ◌||◌, List, [], ◌∷◌, ◌++◌, length, Ok, Err, Result, ◌==◌, nat_le, nat_lt}
 use Rattle.analysis.specs.declared.task.Task.{Task}
 use Rattle.analysis.specs.Rivals.{among}
 use Rattle.planner.specs.Calls.{task_numbered}
@@ -79,8 +79,9 @@ module _ (s : Progress) where
 
 -- what the reader holds
 abbrev pub view : Reader → Progress
-view r = so_far r.phase r.cores (take r.count r.tasks) (take r.placed r.places)
+view r = so_far r.phase r.cores r.tasks.items r.places.items
 
--- what every reader keeps: at most 32 tasks, and no more places than tasks
-abbrev pub Few : Reader → Type 0
-Few r = (r.count ≤ 32) × (r.placed ≤ r.count) × (length r.tasks ≡ 32) × (length r.places ≡ 32)
+-- what a step makes of the reader, or the fault, and then it is as it was
+abbrev pub Steps : Result Progress Fault → Result (Unit {0}) Fault → Reader → Reader → Type 0
+Steps step (Ok x) old new = step ≡ Ok (view new)
+Steps step (Err f) old new = (step ≡ Err f) × (new ≡ old)

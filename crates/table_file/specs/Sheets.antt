@@ -1,8 +1,7 @@
 -- What a sheet holds.
-use Rattle.std.specs.Prelude.{take}
 use Rattle.planner.specs.Tables.{held}
 use Rattle.table_file.specs.declared.sheet.Sheet.{Sheet}
 use Rattle.table_file.specs.Stored.{Stored, stored}
 
 abbrev pub kept : Sheet → Stored
-kept s = stored (held s.table).cores (held s.table).tasks (take s.count s.places)
+kept s = stored (held s.table).cores (held s.table).tasks s.places.items

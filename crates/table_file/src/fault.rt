@@ -1,5 +1,5 @@
 ghost use Rattle.std.specs.Prelude.{◌≡◌};
-ghost use Rattle.table_file.specs.Numbers.{number_of, layer_of, fault_at};
+ghost use Rattle.table_file.specs.Numbers.{number_of, layer_number, layer_of, fault_at};
 
 // Why a file was refused.
 #[derive(Clone, Copy, PartialEq, Eq, Debug)]
@@ -30,22 +30,46 @@ pub enum Number {
     TooLong = 17,
 }
 
-impl Number {
-    // the number that users know the refusal by
-    pub fn code(self) -> u8
-        ensures { result ≡ number_of self }
-    {
-        self as u8
-    }
+// The number that users know a refusal by.
+impl From<Number> for u8 {
+    ghost from_gives = { λ number n. n ≡ number_of number };
 
-    // 1: lines of digits, 2: frames, 3: the table
-    pub fn layer(self) -> u8
+    fn from(number: Number) -> u8 {
+        number as u8
+    }
+}
+
+// How far the reading of a file had come when it was refused; or that a search was refused.
+#[derive(Clone, Copy, PartialEq, Eq, Debug)]
+pub enum Layer {
+    // lines of digits
+    Lines = 1,
+    // frames
+    Frames = 2,
+    // what of a table the frames say
+    Table = 3,
+    // the search for a plan
+    Search = 4,
+}
+
+// The number that users know a layer by.
+impl From<Layer> for u8 {
+    ghost from_gives = { λ layer n. n ≡ layer_number layer };
+
+    fn from(layer: Layer) -> u8 {
+        layer as u8
+    }
+}
+
+impl Number {
+    // the layer whose rules have this number
+    pub fn layer(self) -> Layer
         ensures { result ≡ layer_of self }
     {
         match self {
-            Number::Digit | Number::Line | Number::TooLong => 1,
-            Number::Kind | Number::Size | Number::NotDue => 2,
-            _ => 3,
+            Number::Digit | Number::Line | Number::TooLong => Layer::Lines,
+            Number::Kind | Number::Size | Number::NotDue => Layer::Frames,
+            _ => Layer::Table,
         }
     }
 }
@@ -54,7 +78,7 @@ impl Number {
 #[derive(Clone, Copy, PartialEq, Eq, Debug)]
 pub struct Fault {
     pub number: Number,
-    pub layer: u8,
+    pub layer: Layer,
     pub line: u16,
     pub column: u16,
 }

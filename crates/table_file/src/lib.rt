@@ -4,6 +4,7 @@
 mod digits;
 pub mod fault;
 mod frames;
+mod kind;
 mod lines;
 pub mod notice;
 pub mod place;
@@ -11,5 +12,6 @@ mod placing;
 mod reader;
 pub mod reading;
 pub mod sheet;
+mod stretch;
 mod text;
 pub mod writing;

@@ -1,16 +1,9 @@
-ghost use Rattle.std.specs.Prelude.{◌≡◌, ◌+◌, ◌<◌, ◌≤◌, length, IfOk, MatchResult};
-ghost use Rattle.table_file.specs.Digits.{AllDigits};
-ghost use Rattle.table_file.specs.Lines.{wrong_at, line_length, head_line, after_line, check_line, seen_line};
+ghost use Rattle.std.specs.Prelude.{◌≡◌, ◌+◌, ◌<◌, ◌≤◌, length, position, IfOk, MatchResult};
+ghost use Rattle.table_file.specs.Lines.{wrong, line_length, head_line, after_line, check_line, seen_line};
 
 use crate::digits::is_hex;
 use crate::fault::{Fault, Number};
-
-// The digits of a line, in the file itself, with the line's number.
-#[derive(Clone, Copy)]
-pub(crate) struct Stretch<'a> {
-    pub(crate) digits: &'a [u8],
-    pub(crate) line: u16,
-}
+use crate::stretch::Stretch;
 
 // What is left of a file, and the number of its first line.
 #[derive(Drop)]
@@ -26,14 +19,13 @@ impl<'a> Lines<'a> {
         requires short { length self.old.rest.now ≤ 65535 }
         ensures answer { seen_line result ≡ check_line (head_line self.old.rest.now) self.old.line }
         ensures after { MatchResult result (λ s. (s.line ≡ self.old.line) × (self.new.line ≡ self.old.line + 1) × (self.new.rest.now ≡ after_line self.old.rest.now)) (λ _. self.new ≡ self.old) }
-        ensures digits { IfOk result (λ s. AllDigits s.digits.now × (2 ≤ length s.digits.now) × (length self.new.rest.now + 3 ≤ length self.old.rest.now)) }
+        ensures shorter { IfOk result (λ _. length self.new.rest.now + 3 ≤ length self.old.rest.now) }
     {
         let rest = self.rest;
         let line = self.line;
         let n = line_len(rest);
         let digits = &rest[0..n];
-        let wrong = wrong_at(digits);
-        if wrong < n {
+        if let Some(wrong) = wrong_at(digits) {
             return Err(Fault::at(Number::Digit, line, column_of(wrong)));
         }
         if n >= rest.len() || n == 0 || n % 2 != 0 {
@@ -58,22 +50,15 @@ fn line_len(bytes: &[u8]) -> usize
     ensures value { result ≡ line_length bytes.now }
     ensures bound { result ≤ length bytes.now }
 {
-    for (i, b) in bytes.iter().enumerate() {
-        if *b == b'\n' {
-            return i;
-        }
-    }
-    bytes.len()
+    bytes
+        .iter()
+        .position(|b| *b == b'\n')
+        .unwrap_or(bytes.len())
 }
 
-// The index of the first byte that is no digit, or the length.
-fn wrong_at(bytes: &[u8]) -> usize
-    ensures { result ≡ wrong_at bytes.now }
+// The index of the first byte that is no digit.
+fn wrong_at(bytes: &[u8]) -> Option<usize>
+    ensures { result ≡ position wrong bytes.now }
 {
-    for (i, b) in bytes.iter().enumerate() {
-        if !is_hex(*b) {
-            return i;
-        }
-    }
-    bytes.len()
+    bytes.iter().position(|b| !is_hex(*b))
 }

@@ -1,15 +1,15 @@
-ghost use Rattle.std.specs.Prelude.{◌≡◌, ◌≤◌, length, Ok};
+ghost use Rattle.std.specs.Prelude.{◌≡◌};
 ghost use Rattle.table_file.specs.Notices.{notice_line, of_fault, WritesBytes};
 
 use crate::fault::Fault;
-use crate::text::{put_byte, put_word};
+use crate::kind::Kind;
+use crate::text::{Line, byte_text, put, word_text};
 use planner::refusal::Refusal;
-
-const NOTICE_KIND: u8 = 0x7F;
 
 const NOTICE_BYTES: usize = 15;
 
-// A refusal as a frame, in the place of a file: its number, layer, line and column.
+// A refusal as a frame, in the place of a file: its number, layer, line and column. Number and layer are the bytes
+// that are written, since any of them can be: an enum would ask more of who writes a notice.
 #[derive(Clone, Copy, PartialEq, Eq, Debug)]
 pub struct Notice {
     pub number: u8,
@@ -18,17 +18,34 @@ pub struct Notice {
     pub column: u16,
 }
 
-impl Fault {
-    // The notice of a file that was refused.
-    pub fn notice(self) -> Notice
-        ensures { result ≡ of_fault self }
-    {
+// The notice of a file that was refused.
+impl From<Fault> for Notice {
+    ghost from_gives = { λ fault notice. notice ≡ of_fault fault };
+
+    fn from(fault: Fault) -> Notice {
         Notice {
-            number: self.number.code(),
-            layer: self.layer,
-            line: self.line,
-            column: self.column,
+            number: u8::from(fault.number),
+            layer: u8::from(fault.layer),
+            line: fault.line,
+            column: fault.column,
         }
+    }
+}
+
+impl Line<15> for Notice {
+    ghost text = { notice_line };
+
+    ghost Fits = { λ _. Unit {0} };
+
+    fn line(&self) -> [u8; 15] {
+        let [k1, k0] = byte_text(u8::from(Kind::Notice));
+        let [n1, n0] = byte_text(self.number);
+        let [y1, y0] = byte_text(self.layer);
+        let [l3, l2, l1, l0] = word_text(self.line);
+        let [c3, c2, c1, c0] = word_text(self.column);
+        [
+            k1, k0, n1, n0, y1, y0, l3, l2, l1, l0, c3, c2, c1, c0, b'\n',
+        ]
     }
 }
 
@@ -39,18 +56,5 @@ pub fn write_notice(notice: Notice, text: &mut [u8]) -> Result<usize, Refusal>
     if text.len() < NOTICE_BYTES {
         return Err(Refusal::TooShort);
     }
-    put_notice(notice, text);
-    Ok(NOTICE_BYTES)
-}
-
-fn put_notice(notice: Notice, text: &mut [u8])
-    requires { 15 ≤ length text.old }
-    ensures { WritesBytes (notice_line notice) (Ok 15) text.old text.new }
-{
-    let at = put_byte(text, 0, NOTICE_KIND);
-    let at = put_byte(text, at, notice.number);
-    let at = put_byte(text, at, notice.layer);
-    let at = put_word(text, at, notice.line as u32);
-    let at = put_word(text, at, notice.column as u32);
-    text[at] = b'\n';
+    Ok(put(text, 0, notice.line()))
 }

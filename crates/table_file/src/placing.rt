@@ -1,10 +1,11 @@
-ghost use Rattle.std.specs.Prelude.{◌≡◌, ◌≤◌, length, take};
+ghost use Rattle.std.specs.Prelude.{◌≡◌, ◌≤◌, length};
 ghost use Rattle.planner.specs.Tables.{holds};
 ghost use Rattle.planner.specs.Calls.{NamesEach};
 ghost use Rattle.planner.specs.Reading.{standing};
 ghost use Rattle.table_file.specs.Stored.{numbers, EachFits, StretchedTo};
 
 use crate::place::Place;
+use arrayvec::ArrayVec;
 use interference::full::Full;
 use planner::fixed::FixedTable;
 
@@ -19,7 +20,7 @@ pub(crate) fn order_by(table: &mut FixedTable<Full>, places: &[Place])
 {
     let named = numbers_of(places);
     // Each task is named once, so that the call is not refused.
-    let _ = table.order(&named[0..places.len()]);
+    let _ = table.order(&named);
 }
 
 // Stretches each task to the length that its place says.
@@ -38,14 +39,13 @@ pub(crate) fn stretch_to(table: &mut FixedTable<Full>, places: &[Place])
 }
 
 // The task numbers of places.
-fn numbers_of(places: &[Place]) -> [u32; 32]
+fn numbers_of(places: &[Place]) -> ArrayVec<u32, 32>
     requires { length places.now ≤ 32 }
-    ensures size { length result ≡ 32 }
-    ensures items { take (length places.now) result ≡ numbers places.now }
+    ensures { result.items ≡ numbers places.now }
 {
-    let mut named = [0; 32];
-    for k in 0..places.len() {
-        named[k] = places[k].task;
+    let mut named = ArrayVec::new();
+    for p in places {
+        named.push(p.task);
     }
     named
 }

@@ -1,5 +1,5 @@
 ghost use Rattle.std.specs.Prelude.{◌≡◌, Ok, Err, MatchResult};
-ghost use Rattle.table_file.specs.Progress.{carried, view, Few};
+ghost use Rattle.table_file.specs.Progress.{carried, view};
 ghost use Rattle.table_file.specs.Promises.{Reads};
 ghost use Rattle.table_file.specs.Reading.{read_file};
 
@@ -14,7 +14,7 @@ const MOST_BYTES: usize = 65_535;
 // Reads all frames of a file, or refuses the first line that breaks a rule.
 fn read_frames(bytes: &[u8]) -> Result<Reader, Fault>
     ensures { MatchResult result
-        (λ reader. (read_file bytes.now ≡ Ok (carried (view reader))) × Few reader)
+        (λ reader. read_file bytes.now ≡ Ok (carried (view reader)))
         (λ f. read_file bytes.now ≡ Err f) }
 {
     if bytes.len() > MOST_BYTES {
@@ -39,6 +39,6 @@ pub fn read_file(bytes: &[u8], sheet: &mut Sheet) -> Result<(), Fault>
     ensures { Reads bytes.now result sheet.old sheet.new }
 {
     let reader = read_frames(bytes)?;
-    sheet.fill(&reader);
+    sheet.fill(reader);
     Ok(())
 }

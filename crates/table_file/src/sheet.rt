@@ -1,8 +1,8 @@
-ghost use Rattle.std.specs.Prelude.{◌≤◌, take};
 ghost use Rattle.planner.specs.Tables.{held};
 ghost use Rattle.table_file.specs.Stored.{AllOrNone, EachFits};
 
 use crate::place::Place;
+use arrayvec::ArrayVec;
 use planner::open::OpenTable;
 
 mod filling;
@@ -13,9 +13,7 @@ mod reading;
 #[derive(Drop)]
 pub struct Sheet {
     pub(crate) table: OpenTable,
-    pub(crate) count: usize,
-    pub(crate) places: [Place; 32],
-    ghost few: { count ≤ 32 },
-    ghost whole: { AllOrNone (held table).tasks (take count places) },
-    ghost each: { EachFits (held table).tasks (take count places) },
+    pub(crate) places: ArrayVec<Place, 32>,
+    ghost whole: { AllOrNone (held table).tasks places.items },
+    ghost each: { EachFits (held table).tasks places.items },
 }

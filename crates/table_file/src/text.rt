@@ -1,77 +1,115 @@
-ghost use Rattle.std.specs.Prelude.{◌≡◌, ◌+◌, ◌<◌, ◌≤◌, length};
+ghost use Rattle.std.specs.Prelude.{◌≡◌, ℕ, ◌+◌, ◌*◌, ◌<◌, ◌≤◌, List, length, slice_index_or};
+ghost use Rattle.std.specs.List.{flat_map};
 ghost use Rattle.analysis.specs.Rivals.{TaskWithinLimits};
 ghost use Rattle.table_file.specs.Digits.{digit_text, byte_text, word_text};
 ghost use Rattle.table_file.specs.FileText.{cores_line, task_line, place_line};
 ghost use Rattle.table_file.specs.Puts.{put};
 
-use crate::frames::{CORES_KIND, PLACE_KIND, TASK_KIND};
+use crate::kind::Kind;
 use crate::place::Place;
-use analysis::task::Task;
+use planner::rows::Row;
 
-// Writes a line for the core count from `at` on, and answers the index past it.
-pub(crate) fn put_cores(text: &mut [u8], at: usize, cores: u32) -> usize
-    requires room { at + 5 ≤ length text.old }
-    requires byte { cores < 256 }
-    ensures at { result ≡ at + 5 }
-    ensures text { text.new ≡ put (cores_line cores) at text.old }
-{
-    let at = put_byte(text, at, CORES_KIND);
-    let at = put_byte(text, at, cores as u8);
-    text[at] = b'\n';
-    at + 1
+// What has a line in a file, of as many bytes as its kind asks for.
+pub(crate) trait Line<const N: usize> {
+    ghost text: { Self → List ℕ };
+
+    // that each number fits its field
+    ghost Fits: { Self → Type 0 };
+
+    fn line(&self) -> [u8; N]
+        requires { Fits self.now }
+        ensures { result ≡ text self.now };
 }
 
-// Writes a line for a task.
-pub(crate) fn put_task(text: &mut [u8], at: usize, t: Task) -> usize
-    requires room { at + 15 ≤ length text.old }
-    requires within { TaskWithinLimits t }
-    ensures at { result ≡ at + 15 }
-    ensures text { text.new ≡ put (task_line t) at text.old }
-{
-    let at = put_byte(text, at, TASK_KIND);
-    let at = put_word(text, at, t.cost);
-    let at = put_word(text, at, t.deadline);
-    let at = put_word(text, at, t.period);
-    text[at] = b'\n';
-    at + 1
+// The core count.
+#[derive(Clone, Copy)]
+pub(crate) struct Cores(pub(crate) u32);
+
+impl Line<5> for Cores {
+    ghost text = { λ c. cores_line c.0 };
+
+    ghost Fits = { λ c. c.0 < 256 };
+
+    fn line(&self) -> [u8; 5] {
+        let [k1, k0] = byte_text(u8::from(Kind::Cores));
+        let [m1, m0] = byte_text(self.0 as u8);
+        [k1, k0, m1, m0, b'\n']
+    }
 }
 
-// Writes a line for a place.
-pub(crate) fn put_place(text: &mut [u8], at: usize, p: Place) -> usize
-    requires room { at + 9 ≤ length text.old }
-    requires byte { p.task < 256 }
-    requires word { p.length < 65536 }
-    ensures at { result ≡ at + 9 }
-    ensures text { text.new ≡ put (place_line p) at text.old }
-{
-    let at = put_byte(text, at, PLACE_KIND);
-    let at = put_byte(text, at, p.task as u8);
-    let at = put_word(text, at, p.length);
-    text[at] = b'\n';
-    at + 1
+// A row's line is that of its task.
+impl Line<15> for Row {
+    ghost text = { λ r. task_line r.task };
+
+    ghost Fits = { λ r. TaskWithinLimits r.task };
+
+    fn line(&self) -> [u8; 15] {
+        let [k1, k0] = byte_text(u8::from(Kind::Task));
+        let [c3, c2, c1, c0] = word_text(self.task.cost as u16);
+        let [d3, d2, d1, d0] = word_text(self.task.deadline as u16);
+        let [t3, t2, t1, t0] = word_text(self.task.period as u16);
+        [
+            k1, k0, c3, c2, c1, c0, d3, d2, d1, d0, t3, t2, t1, t0, b'\n',
+        ]
+    }
 }
 
-// Writes a two-byte number, the most significant byte first.
-pub(crate) fn put_word(text: &mut [u8], at: usize, w: u32) -> usize
-    requires room { at + 4 ≤ length text.old }
-    requires word { w < 65536 }
-    ensures at { result ≡ at + 4 }
-    ensures text { text.new ≡ put (word_text w) at text.old }
-{
-    let [high, low] = (w as u16).to_be_bytes();
-    let next = put_byte(text, at, high);
-    put_byte(text, next, low)
+impl Line<9> for Place {
+    ghost text = { place_line };
+
+    ghost Fits = { λ p. (p.task < 256) × (p.length < 65536) };
+
+    fn line(&self) -> [u8; 9] {
+        let [k1, k0] = byte_text(u8::from(Kind::Place));
+        let [n1, n0] = byte_text(self.task as u8);
+        let [l3, l2, l1, l0] = word_text(self.length as u16);
+        [k1, k0, n1, n0, l3, l2, l1, l0, b'\n']
+    }
 }
 
-// Writes a byte's two digits.
-pub(crate) fn put_byte(text: &mut [u8], at: usize, b: u8) -> usize
-    requires { at + 2 ≤ length text.old }
-    ensures at { result ≡ at + 2 }
-    ensures text { text.new ≡ put (byte_text b) at text.old }
+// Writes a line from `at` on, and answers the index past it.
+pub(crate) fn put<const N: usize>(text: &mut [u8], at: usize, line: [u8; N]) -> usize
+    requires { at + N ≤ length text.old }
+    ensures at { result ≡ at + N }
+    ensures text { text.new ≡ put line.entry at text.old }
 {
-    text[at] = digit(b / 16);
-    text[at + 1] = digit(b % 16);
-    at + 2
+    text[at..at + N].copy_from_slice(&line);
+    at + N
+}
+
+// Writes a line for each item.
+pub(crate) fn put_all<L: Line<N>, const N: usize>(
+    text: &mut [u8],
+    start: usize,
+    items: &[L],
+) -> usize
+    requires room { start + N * length items.now ≤ length text.old }
+    requires fit { (k : ℕ) (d : L) → k < length items.now → L.Fits (slice_index_or items.now k d) }
+    ensures at { result ≡ start + N * length items.now }
+    ensures text { text.new ≡ put (flat_map L.text items.now) start text.old }
+{
+    let mut at = start;
+    for item in items {
+        at = put(text, at, item.line());
+    }
+    at
+}
+
+// The digits of a two-byte number, the most significant byte first.
+pub(crate) fn word_text(w: u16) -> [u8; 4]
+    ensures { result ≡ word_text w }
+{
+    let [high, low] = w.to_be_bytes();
+    let [h1, h0] = byte_text(high);
+    let [l1, l0] = byte_text(low);
+    [h1, h0, l1, l0]
+}
+
+// A byte's two digits.
+pub(crate) fn byte_text(b: u8) -> [u8; 2]
+    ensures { result ≡ byte_text b }
+{
+    [digit(b / 16), digit(b % 16)]
 }
 
 // The digit of a value below 16.

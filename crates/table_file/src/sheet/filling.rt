@@ -2,7 +2,7 @@ ghost use Rattle.std.specs.Prelude.{◌≡◌, ◌+◌, ◌≤◌, [], ◌++◌,
 ghost use Rattle.analysis.specs.Rivals.{TasksWithinLimits};
 ghost use Rattle.planner.specs.Tables.{held, opened};
 ghost use Rattle.table_file.specs.Stored.{Valid};
-ghost use Rattle.table_file.specs.Progress.{carried, view, Few};
+ghost use Rattle.table_file.specs.Progress.{carried, view};
 ghost use Rattle.table_file.specs.Sheets.{kept};
 
 use super::Sheet;
@@ -12,29 +12,29 @@ use planner::open::OpenTable;
 
 impl Sheet {
     // Takes over what was read.
-    pub(crate) fn fill(&mut self, reader: &Reader)
-        requires few { Few reader.now }
-        requires valid { Valid (carried (view reader.now)) }
-        ensures { kept self.new ≡ carried (view reader.now) }
+    pub(crate) fn fill(&mut self, reader: Reader)
+        requires { Valid (carried (view reader)) }
+        ensures { kept self.new ≡ carried (view reader) }
     {
+        let Reader {
+            cores,
+            tasks,
+            places,
+            ..
+        } = reader;
         clear(&mut self.table);
         // What was read is within the limits, so that no call is refused.
-        let _ = self.table.cores(reader.cores);
-        enter_all(&mut self.table, &reader.tasks[0..reader.count]);
-        let places = reader.places;
+        let _ = self.table.cores(cores);
+        enter_all(&mut self.table, &tasks);
         self.places = places;
-        self.count = reader.placed;
     }
 }
 
-// Strikes all tasks.
+// Strikes the first task as long as there is one.
 fn clear(table: &mut OpenTable)
     ensures { held table.new ≡ opened (held table.old).cores [] }
 {
-    while !table.rows().is_empty() {
-        // There is a first task, so that the call is not refused.
-        let _ = table.strike(1);
-    }
+    while table.strike(1).is_ok() {}
 }
 
 // Enters tasks within the limits into a table that has room for them.

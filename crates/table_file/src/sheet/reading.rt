@@ -5,6 +5,7 @@ ghost use Rattle.table_file.specs.Sheets.{kept};
 
 use super::Sheet;
 use crate::place::Place;
+use arrayvec::ArrayVec;
 use planner::open::OpenTable;
 use std::alloc::{AllocError, Global};
 
@@ -16,8 +17,7 @@ impl Sheet {
         let table = OpenTable::new(heap)?;
         Ok(Sheet {
             table,
-            count: 0,
-            places: [Place { task: 0, length: 0 }; 32],
+            places: ArrayVec::new(),
         })
     }
 
@@ -32,7 +32,7 @@ impl Sheet {
     pub fn places(&self) -> &[Place]
         ensures { result.now ≡ (kept self.now).places }
     {
-        &self.places[0..self.count]
+        &self.places
     }
 
     // Gives the table and drops the places.

@@ -1,53 +1,30 @@
-use Rattle.std.proofs.Common.{◌≡◌, ℕ, List, Ok, Err, Result, sym, ap, subst}
-use Rattle.planner.specs.Tables.{Open, held, opened}
-use Rattle.table_file.specs.declared.fault.Fault.{Fault}
-use Rattle.table_file.specs.Stored.{Stored}
-use Rattle.table_file.specs.Reading.{read_file}
-use Rattle.table_file.specs.Sheets.{kept}
-use Rattle.table_file.specs.Notices.{notice_line}
-use Rattle.table_file.specs.Promises.{Accepted, Refused}
-use Rattle.plan_file.specs.Answers.{PlanAnswer, FileAnswer}
-use Rattle.plan_file.proofs.OneAnswer.{one_answer}
+use Rattle.std.proofs.Common.{ℕ, List, sym, ◌∙◌, subst}
+use Rattle.std.specs.Result.{IsOk}
+use Rattle.planner.specs.Tables.{holds}
+use Rattle.table_file.specs.Stored.{of_fixed}
+use Rattle.plan_file.specs.Answers.{Answered}
+use Rattle.plan_file.proofs.OnAnswers.{file_written, notice_written, file_answered, notice_answered}
 use Rattle.plan_file.proofs.planning.plan_file.Goals as goal
+use Rattle.plan_file.proofs.planning.plan_file.Goals.{in-Ok, in-Err}
 
-module _ (m n : Open) (e : n ≡ m) where
-  of_same : (out : List ℕ) → PlanAnswer n.cores n.tasks out → PlanAnswer m.cores m.tasks out
-  of_same out a = subst (λ (x : Open). PlanAnswer x.cores x.tasks out) e a
+pub unwrap-requires : goal.unwrap-requires
+unwrap-requires c =
+    let old = c.args.text.now in
+    elim c.match-plan_of.branch [
+      | in-Ok w ↦ subst IsOk (sym w.answer-is)
+          (file_written c.args.file.now old w.write_fixed-answer.new.text c.told-text (of_fixed (holds w.in-Ok.planned)) _ w.write_fixed-answer.ensures w.in-Ok.ensures.0)
+      | in-Err w ↦ subst IsOk (sym w.answer-is)
+          (notice_written c.args.file.now old w.write_notice-answer.new.text c.told-text w.in-Err.notice _ w.write_notice-answer.ensures)
+    ]
 
--- what was read says which answer there is, and there is no other
-module _ (file : List ℕ) (r : Result Stored Fault) (is : read_file file ≡ r) where
-  answer_is : (out : List ℕ) → FileAnswer r out → FileAnswer (read_file file) out
-  answer_is out a = subst (λ (x : Result Stored Fault). FileAnswer x out) (sym is) a
-
-  only : (out other : List ℕ) → FileAnswer r out → FileAnswer (read_file file) other → other ≡ out
-  only out other a b = one_answer (read_file file) other out b (answer_is out a)
-
-pub returns-in-Ok : goal.returns-in-Ok
-returns-in-Ok c =
+pub returns : goal.returns
+returns c =
     let file = c.args.file.now in
-    let s = kept c.read_file.new.sheet in
-    let h : Accepted file c.read_file.new.sheet = c.in-Ok.ensures in
-    let p = c.plan_table.ensures in
-    let a : FileAnswer (Ok s) p.bytes = of_same (opened s.cores s.tasks) (held c.into_table.result) c.into_table.ensures p.bytes p.answer in
-    record {
-      bytes = p.bytes;
-      answer = answer_is file (Ok s) h.holds p.bytes a;
-      only = λ other b. only file (Ok s) h.holds p.bytes other a b;
-      count = p.count;
-      text = p.text;
-    }
-
-pub returns-in-Err : goal.returns-in-Err
-returns-in-Err c =
-    let file = c.args.file.now in
-    let f = c.in-Err.fault in
-    let h : Refused file f c.args.desk.sheet c.read_file.new.sheet = c.in-Err.ensures in
-    let bytes = notice_line c.notice.result in
-    let a : FileAnswer (Err f) bytes = ap notice_line c.notice.ensures in
-    record {
-      bytes = bytes;
-      answer = answer_is file (Err f) h.fault bytes a;
-      only = λ other b. only file (Err f) h.fault bytes other a b;
-      count = c.put.ensures.count;
-      text = c.put.ensures.text;
-    }
+    let old = c.args.text.now in
+    let n = c.unwrap.result in
+    elim c.match-plan_of.branch [
+      | in-Ok w ↦ subst (λ (new : List ℕ). Answered file n old new) (sym w.text-is)
+          (file_answered file old w.write_fixed-answer.new.text c.told-text (of_fixed (holds w.in-Ok.planned)) _ n w.write_fixed-answer.ensures (sym w.answer-is ∙ c.unwrap.ensures) w.in-Ok.ensures.1)
+      | in-Err w ↦ subst (λ (new : List ℕ). Answered file n old new) (sym w.text-is)
+          (notice_answered file old w.write_notice-answer.new.text c.told-text w.in-Err.notice _ n w.write_notice-answer.ensures (sym w.answer-is ∙ c.unwrap.ensures) w.in-Err.ensures)
+    ]

@@ -1,12 +1,10 @@
-use Rattle.std.proofs.Common.{arith}
-use Rattle.table_file.proofs.Named.{named_here, named_on, named_end}
+use Rattle.std.proofs.Common.{eqb, ◌∙◌, rules, tests}
+use Rattle.std.proofs.lemmas.Iterator.{YieldsList-from_slice}
+use Rattle.std.proofs.lemmas.Iterator.Search.{any_from_yields_List}
+use Rattle.table_file.proofs.Named.{named_any}
 use Rattle.table_file.proofs.reader.is_named.Goals as goal
 
-pub returns-then-p-task : goal.returns-then-p-task
-returns-then-p-task c = named_here c.args.places.now c.args.task c.loop-p.p-index _ c.loop-p.invariant (omega arith) c.if-p-task.true
-
-pub loop-p-preserved : goal.loop-p-preserved
-loop-p-preserved c = named_on c.args.places.now c.args.task c.loop-p.p-index _ c.loop-p.invariant (omega arith) c.if-p-task.false
-
 pub returns : goal.returns
-returns c = named_end c.args.places.now c.args.task c.loop-p.p-index c.loop-p.invariant (omega arith)
+returns c =
+    any_from_yields_List (λ p. eqb p.task c.args.task) _ _ _ c.any.ensures.ran (YieldsList-from_slice c.args.places.now cc) (λ x b q k. search (rules, tests))
+    ∙ named_any c.args.task c.args.places.now

@@ -13,11 +13,11 @@ returns-in_err-reader c =
     rw (p.1, p.2) (record { fault = e; first = refused_first bs _ e; only = one_first bs _ e; unchanged = refl })
 
 pub fill-requires : goal.fill-requires
-fill-requires c = record { few = c.in_ok-reader.ensures.1; valid = (read_only c.args.bytes.now _ c.in_ok-reader.ensures.0).0 }
+fill-requires c = (read_only c.args.bytes.now _ c.in_ok-reader.ensures).0
 
 pub returns : goal.returns
 returns c =
-    let e = c.in_ok-reader.ensures.0 in
+    let e = c.in_ok-reader.ensures in
     record {
       holds = e ∙ ap Ok (sym c.fill.ensures);
       text = (read_only c.args.bytes.now _ e).1 ∙ ap file_text (sym c.fill.ensures);

@@ -1,4 +1,5 @@
-use Rattle.std.proofs.Common.{ℕ, List, replicate, refl}
+use Rattle.std.proofs.Common.{◌≡◌, ℕ, ◌-◌, List, length, replicate, refl, ap, ◌∙◌, arith}
+use Rattle.std.proofs.lemmas.List.{length-map}
 use Rattle.planner.specs.Tables.{holds}
 use Rattle.planner.specs.Reading.{lent}
 use Rattle.table_file.proofs.Carried.{room_for, read_filled, read_places}
@@ -8,9 +9,8 @@ pub returns : goal.returns
 returns g c =
     let m = holds c.args.table.now in
     let r = c.read_out in
+    let rows = c.rows-count.result.now in
     let zeros : List ℕ = replicate 32 0 in
     let h = read_filled m c.requires r.result (lent zeros zeros zeros) (lent r.new.tasks r.new.lengths r.new.bounds) r.ensures (room_for m c.requires zeros zeros zeros refl refl refl) in
-    record {
-      size = c.pair_up.ensures.size;
-      places = read_places m c.requires zeros zeros r.new.tasks r.new.lengths c.pair_up.result h.0 h.1 c.pair_up.ensures.size c.pair_up.ensures.each;
-    }
+    let count : length rows - 0 ≡ length m.tasks = omega (arith, length-map rows (λ r. r.task), ap length c.rows-count.ensures.tasks) in
+    c.pair_up.ensures ∙ read_places m c.requires zeros zeros r.new.tasks r.new.lengths h.0 h.1 _ count
