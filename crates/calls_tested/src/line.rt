@@ -6,7 +6,7 @@ use std::alloc::{AllocError, Global};
 pub fn line(heap: Global, r: &Report) -> Result<String, AllocError> {
     let mut text = match r.outcome {
         Outcome::Done => format!(in heap; "done")?,
-        Outcome::Refused(e) => format!(in heap; "refused by {}", e.number())?,
+        Outcome::Refused(e) => format!(in heap; "refused by {}", u8::from(e))?,
         Outcome::NotApplicable => format!(in heap; "not applicable")?,
     };
     if r.fixed {

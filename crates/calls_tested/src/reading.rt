@@ -19,7 +19,7 @@ fn too_short(rt: &impl Abort, r: Result<Marks, Refusal>) -> Result<(), Fail> {
     match r {
         Ok(_) => Err(Fail::new("read out")),
         Err(e) => {
-            assert_eq!(rt; e.number(), 11);
+            assert_eq!(rt; u8::from(e), 11);
             Ok(())
         },
     }

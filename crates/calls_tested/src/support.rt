@@ -16,7 +16,7 @@ pub fn task(cost: u32, deadline: u32, period: u32) -> Task {
 pub fn refused(r: Result<(), Refusal>) -> Option<u8> {
     match r {
         Ok(()) => None,
-        Err(e) => Some(e.number()),
+        Err(e) => Some(u8::from(e)),
     }
 }
 

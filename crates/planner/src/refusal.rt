@@ -28,11 +28,11 @@ pub enum Refusal {
     TooShort = 11,
 }
 
-impl Refusal {
-    // the number that users know the refusal by
-    pub fn number(self) -> u8
-        ensures { result ≡ number self }
-    {
-        self as u8
+// The number that users know a refusal by.
+impl From<Refusal> for u8 {
+    ghost from_gives = { λ refusal n. n ≡ number refusal };
+
+    fn from(refusal: Refusal) -> u8 {
+        refusal as u8
     }
 }

@@ -47,7 +47,7 @@ fn calls(
 fn came(r: &Report) -> Option<u8> {
     match r.outcome {
         Outcome::Done => Some(0),
-        Outcome::Refused(e) => Some(e.number()),
+        Outcome::Refused(e) => Some(u8::from(e)),
         Outcome::NotApplicable => None,
     }
 }
