@@ -4,7 +4,8 @@ ghost use Rattle.planner.specs.Rows.{tasks, lengths, bounds};
 use crate::rows::Row;
 use analysis::task::Task;
 
-const NO_TASK: Task = Task {
+// what stands in a list where there is no task
+pub(crate) const NO_TASK: Task = Task {
     cost: 0,
     deadline: 0,
     period: 0,
