@@ -1,60 +1,65 @@
-use analysis::task::Task;
-use planner::replay::{Outcome, Report};
-use std::alloc::{AllocError, Global};
+use planner::marks::Marks;
+use planner::replay::{Outcome, Report, Standing};
+use std::fmt;
 
 // A report in one line: what came of the call, and the table.
-pub fn line(heap: Global, r: &Report) -> Result<String, AllocError> {
-    let mut text = match r.outcome {
-        Outcome::Done => format!(in heap; "done")?,
-        Outcome::Refused(e) => format!(in heap; "refused by {}", u8::from(e))?,
-        Outcome::NotApplicable => format!(in heap; "not applicable")?,
-    };
-    if r.fixed {
-        add_fixed(heap, r, &mut text)?;
-    } else {
-        text.push_str(&format!(in heap; "; open on {}:", r.cores)?)?;
-        add_tasks(heap, &r.tasks, r.count, &mut text)?;
+#[derive(Clone, Copy)]
+pub struct Line<'a>(pub &'a Report);
+
+impl<'a> fmt::Display for Line<'a> {
+    fn fmt<W: fmt::Write>(&self, f: &mut fmt::Formatter<W>) -> fmt::Result {
+        let report = self.0;
+        match report.outcome {
+            Outcome::Done => write!(f, "done")?,
+            Outcome::Refused(refusal) => write!(f, "refused by {}", u8::from(refusal))?,
+            Outcome::NotApplicable => write!(f, "not applicable")?,
+        }
+        match &report.fixed {
+            Some(standing) => write_fixed(f, report, standing),
+            None => write_open(f, report),
+        }
     }
-    if r.passed {
-        text.push_str("; passed")?;
-    }
-    if r.bounded {
-        text.push_str("; bounded")?;
-    }
-    Ok(text)
 }
 
-fn add_fixed(heap: Global, r: &Report, text: &mut String) -> Result<(), AllocError> {
-    text.push_str(&format!(in heap; "; fixed on {}: order", r.cores)?)?;
-    add_numbers(heap, &r.places, r.count, text)?;
-    text.push_str("; lengths")?;
-    add_numbers(heap, &r.lengths, r.count, text)?;
-    text.push_str("; bounds")?;
-    add_numbers(heap, &r.bounds, r.count, text)
-}
-
-fn add_tasks(
-    heap: Global,
-    tasks: &[Task],
-    count: usize,
-    text: &mut String,
-) -> Result<(), AllocError> {
-    for t in tasks.iter().take(count) {
-        text.push_str(&format!(in heap; " {}/{}/{}", t.cost, t.deadline, t.period)?)?;
+fn write_open<W: fmt::Write>(f: &mut fmt::Formatter<W>, report: &Report) -> fmt::Result {
+    write!(f, "; open on {}:", report.cores)?;
+    for t in report.tasks.iter().take(report.count) {
+        write!(f, " {}/{}/{}", t.cost, t.deadline, t.period)?;
     }
     Ok(())
 }
 
-fn add_numbers(
-    heap: Global,
+fn write_fixed<W: fmt::Write>(
+    f: &mut fmt::Formatter<W>,
+    report: &Report,
+    standing: &Standing,
+) -> fmt::Result {
+    write!(f, "; fixed on {}: order", report.cores)?;
+    write_numbers(f, report, &standing.places)?;
+    write!(f, "; lengths")?;
+    write_numbers(f, report, &standing.lengths)?;
+    write!(f, "; bounds")?;
+    write_numbers(f, report, &standing.bounds)?;
+    write_marks(f, standing.marks)
+}
+
+fn write_numbers<W: fmt::Write>(
+    f: &mut fmt::Formatter<W>,
+    report: &Report,
     numbers: &[u32],
-    count: usize,
-    text: &mut String,
-) -> Result<(), AllocError> {
-    for x in numbers.iter().take(count) {
-        text.push_str(&format!(in heap; " {x}")?)?;
+) -> fmt::Result {
+    for x in numbers.iter().take(report.count) {
+        write!(f, " {x}")?;
     }
     Ok(())
 }
 
-// Task numbers, the highest place first; they are kept from the lowest place up, from 0.
+fn write_marks<W: fmt::Write>(f: &mut fmt::Formatter<W>, marks: Marks) -> fmt::Result {
+    if marks.passed {
+        write!(f, "; passed")?;
+    }
+    if marks.bounded {
+        write!(f, "; bounded")?;
+    }
+    Ok(())
+}

@@ -1,29 +1,7 @@
-use crate::support::{entered, task};
+use crate::support::{entered, refused, task};
 use interference::full::Full;
 use planner::marks::Marks;
-use planner::refusal::Refusal;
-use std::process::Abort;
 use std::test::Fail;
-
-const NEITHER: Marks = Marks {
-    passed: false,
-    bounded: false,
-};
-
-const BOTH: Marks = Marks {
-    passed: true,
-    bounded: true,
-};
-
-fn too_short(rt: &impl Abort, r: Result<Marks, Refusal>) -> Result<(), Fail> {
-    match r {
-        Ok(_) => Err(Fail::new("read out")),
-        Err(e) => {
-            assert_eq!(rt; u8::from(e), 11);
-            Ok(())
-        },
-    }
-}
 
 // 11: one of the three lists is too short, and then none is written
 #[test]
@@ -32,9 +10,9 @@ fn short_lists(rt: HostRuntime) -> Result<(), Fail> {
     let mut three = [9; 3];
     let mut a = [9; 4];
     let mut b = [9; 4];
-    too_short(&rt, t.read_out(&mut three, &mut a, &mut b))?;
-    too_short(&rt, t.read_out(&mut a, &mut three, &mut b))?;
-    too_short(&rt, t.read_out(&mut a, &mut b, &mut three))?;
+    assert_eq!(rt; refused(t.read_out(&mut three, &mut a, &mut b)), Some(11));
+    assert_eq!(rt; refused(t.read_out(&mut a, &mut three, &mut b)), Some(11));
+    assert_eq!(rt; refused(t.read_out(&mut a, &mut b, &mut three)), Some(11));
     assert_eq!(rt; three, [9; 3]);
     assert_eq!(rt; a, [9; 4]);
     assert_eq!(rt; b, [9; 4]);
@@ -50,7 +28,13 @@ fn tails_stay(rt: HostRuntime) -> Result<(), Fail> {
     let mut a = [9; 3];
     let mut b = [9; 4];
     let mut c = [9; 5];
-    assert_eq!(rt; t.read_out(&mut a, &mut b, &mut c)?, NEITHER);
+    assert_eq!(rt;
+        t.read_out(&mut a, &mut b, &mut c)?,
+        Marks {
+            passed: false,
+            bounded: false
+        }
+    );
     assert_eq!(rt; a, [3, 1, 2]);
     assert_eq!(rt; b, [1, 2, 1, 9]);
     assert_eq!(rt; c, [0, 0, 0, 9, 9]);
@@ -66,7 +50,13 @@ fn no_tasks(rt: HostRuntime) -> Result<(), Fail> {
     t.seek_lengths()?;
     t.seek_bounds()?;
     let mut a = [9; 2];
-    assert_eq!(rt; t.read_out(&mut a, &mut [], &mut [])?, BOTH);
+    assert_eq!(rt;
+        t.read_out(&mut a, &mut [], &mut [])?,
+        Marks {
+            passed: true,
+            bounded: true
+        }
+    );
     assert_eq!(rt; a, [9; 2]);
     Ok(())
 }

@@ -25,17 +25,12 @@ pub enum Step {
     FixSteady,
     FixHandler(u32, u32),
     Order([u32; 4]),
-    Seek(Search),
     Stretch(u32, u32),
+    SeekLengths,
+    SeekPlan,
+    SeekBounds,
     Quick(QuickCall),
     Reopen,
-}
-
-#[derive(Clone, Copy)]
-pub enum Search {
-    Lengths,
-    Plan,
-    Bounds,
 }
 
 // A step as a call on an open table, or else on a fixed one.
@@ -58,18 +53,12 @@ fn call(heap: Global, step: Step) -> Result<Call<Plain, Steady>, Fail> {
         })),
         Step::Order(places) => Call::Fixed(FixedCall::Order(places.to_vec(heap)?)),
         Step::Stretch(number, region) => Call::Fixed(FixedCall::Stretch(number, region)),
-        Step::Seek(search) => Call::Fixed(search_call(search)),
+        Step::SeekLengths => Call::Fixed(FixedCall::SeekLengths),
+        Step::SeekPlan => Call::Fixed(FixedCall::SeekPlan),
+        Step::SeekBounds => Call::Fixed(FixedCall::SeekBounds),
         Step::Quick(search) => Call::Quick(search),
         Step::Reopen => Call::Reopen,
     })
-}
-
-fn search_call(search: Search) -> FixedCall {
-    match search {
-        Search::Lengths => FixedCall::SeekLengths,
-        Search::Plan => FixedCall::SeekPlan,
-        Search::Bounds => FixedCall::SeekBounds,
-    }
 }
 
 // The calls of a script, whose steps stand beside the lines that are to come of them.

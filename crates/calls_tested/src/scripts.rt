@@ -1,4 +1,4 @@
-use crate::script::{Search, Step};
+use crate::script::Step;
 use planner::replay::QuickCall;
 
 // Each limit of an open table, on both sides; 4 is tested before 3.
@@ -170,11 +170,11 @@ pub const ORDERS_AND_LENGTHS: [(Step, &str); 34] = [
         "done; fixed on 2: order 2 1 4 3; lengths 2 1 58 1; bounds 0 0 0 0",
     ),
     (
-        Step::Seek(Search::Lengths),
+        Step::SeekLengths,
         "done; fixed on 2: order 2 1 4 3; lengths 1 1 58 1; bounds 0 0 0 0; passed",
     ),
     (
-        Step::Seek(Search::Bounds),
+        Step::SeekBounds,
         "done; fixed on 2: order 2 1 4 3; lengths 1 1 58 1; bounds 93 86 185 152; passed; bounded",
     ),
     (
@@ -182,11 +182,11 @@ pub const ORDERS_AND_LENGTHS: [(Step, &str); 34] = [
         "done; fixed on 2: order 2 1 4 3; lengths 1 1 58 1; bounds 0 0 0 0",
     ),
     (
-        Step::Seek(Search::Lengths),
+        Step::SeekLengths,
         "done; fixed on 2: order 2 1 4 3; lengths 1 1 58 1; bounds 0 0 0 0; passed",
     ),
     (
-        Step::Seek(Search::Bounds),
+        Step::SeekBounds,
         "done; fixed on 2: order 2 1 4 3; lengths 1 1 58 1; bounds 93 86 185 152; passed; bounded",
     ),
     (
@@ -194,11 +194,11 @@ pub const ORDERS_AND_LENGTHS: [(Step, &str); 34] = [
         "done; fixed on 2: order 2 1 4 3; lengths 1 1 58 1; bounds 0 0 0 0",
     ),
     (
-        Step::Seek(Search::Bounds),
+        Step::SeekBounds,
         "done; fixed on 2: order 2 1 4 3; lengths 1 1 58 1; bounds 93 86 185 152; bounded",
     ),
     (
-        Step::Seek(Search::Lengths),
+        Step::SeekLengths,
         "done; fixed on 2: order 2 1 4 3; lengths 1 1 58 1; bounds 0 0 0 0; passed",
     ),
     (
@@ -252,7 +252,7 @@ pub const ANY_RULE: [(Step, &str); 34] = [
         "refused by 4; open on 2: 36/110/207 86/141/178 93/195/525 62/195/767",
     ),
     (
-        Step::Seek(Search::Lengths),
+        Step::SeekLengths,
         "not applicable; open on 2: 36/110/207 86/141/178 93/195/525 62/195/767",
     ),
     (
@@ -276,7 +276,7 @@ pub const ANY_RULE: [(Step, &str); 34] = [
         "done; fixed on 2: order 2 1 3 4; lengths 1 1 1 1; bounds 0 0 0 0",
     ),
     (
-        Step::Seek(Search::Lengths),
+        Step::SeekLengths,
         "refused by 7; fixed on 2: order 2 1 3 4; lengths 1 1 1 1; bounds 0 0 0 0",
     ),
     (
@@ -284,11 +284,11 @@ pub const ANY_RULE: [(Step, &str); 34] = [
         "not applicable; fixed on 2: order 2 1 3 4; lengths 1 1 1 1; bounds 0 0 0 0",
     ),
     (
-        Step::Seek(Search::Plan),
+        Step::SeekPlan,
         "done; fixed on 2: order 2 1 4 3; lengths 1 1 58 1; bounds 0 0 0 0; passed",
     ),
     (
-        Step::Seek(Search::Bounds),
+        Step::SeekBounds,
         "done; fixed on 2: order 2 1 4 3; lengths 1 1 58 1; bounds 93 86 185 152; passed; bounded",
     ),
     (
@@ -312,7 +312,7 @@ pub const ANY_RULE: [(Step, &str); 34] = [
         "done; fixed on 2: order 2 1 4 3; lengths 1 1 57 1; bounds 0 0 0 0",
     ),
     (
-        Step::Seek(Search::Lengths),
+        Step::SeekLengths,
         "done; fixed on 2: order 2 1 4 3; lengths 1 1 58 1; bounds 0 0 0 0; passed",
     ),
     (
@@ -328,15 +328,15 @@ pub const ANY_RULE: [(Step, &str); 34] = [
         "done; fixed on 2: order 1 2 3 4; lengths 1 1 1 1; bounds 0 0 0 0",
     ),
     (
-        Step::Seek(Search::Plan),
+        Step::SeekPlan,
         "refused by 9; fixed on 2: order 1 2 3 4; lengths 1 1 1 1; bounds 0 0 0 0",
     ),
     (
-        Step::Seek(Search::Bounds),
+        Step::SeekBounds,
         "done; fixed on 2: order 1 2 3 4; lengths 1 1 1 1; bounds 36 86 129 169; bounded",
     ),
     (
-        Step::Seek(Search::Lengths),
+        Step::SeekLengths,
         "refused by 7; fixed on 2: order 1 2 3 4; lengths 1 1 1 1; bounds 36 86 129 169; bounded",
     ),
     (
@@ -378,7 +378,7 @@ pub const STEADY_RULES: [(Step, &str); 31] = [
         "done; fixed on 2: order 2 1 4 3; lengths 1 1 58 1; bounds 0 0 0 0; passed",
     ),
     (
-        Step::Seek(Search::Bounds),
+        Step::SeekBounds,
         "done; fixed on 2: order 2 1 4 3; lengths 1 1 58 1; bounds 93 86 185 152; passed; bounded",
     ),
     (
@@ -398,7 +398,7 @@ pub const STEADY_RULES: [(Step, &str); 31] = [
         "done; fixed on 2: order 2 1 4 3; lengths 1 1 59 1; bounds 0 0 0 0; passed",
     ),
     (
-        Step::Seek(Search::Bounds),
+        Step::SeekBounds,
         "done; fixed on 2: order 2 1 4 3; lengths 1 1 59 1; bounds 95 87 186 157; passed; bounded",
     ),
     (
@@ -410,7 +410,7 @@ pub const STEADY_RULES: [(Step, &str); 31] = [
         "refused by 7; fixed on 2: order 1 2 3 4; lengths 1 1 59 1; bounds 0 0 0 0",
     ),
     (
-        Step::Seek(Search::Bounds),
+        Step::SeekBounds,
         "done; fixed on 2: order 1 2 3 4; lengths 1 1 59 1; bounds 37 124 130 193; bounded",
     ),
     (
@@ -434,7 +434,7 @@ pub const STEADY_RULES: [(Step, &str); 31] = [
         "done; fixed on 2: order 1 2 3; lengths 1 1 1; bounds 0 0 0; passed",
     ),
     (
-        Step::Seek(Search::Bounds),
+        Step::SeekBounds,
         "done; fixed on 2: order 1 2 3; lengths 1 1 1; bounds 30 94 93; passed; bounded",
     ),
     (
@@ -454,19 +454,19 @@ pub const STEADY_RULES: [(Step, &str); 31] = [
         "not applicable; fixed on 2: order 1 2 3; lengths 1 1 1; bounds 0 0 0",
     ),
     (
-        Step::Seek(Search::Lengths),
+        Step::SeekLengths,
         "done; fixed on 2: order 1 2 3; lengths 1 1 1; bounds 0 0 0; passed",
     ),
     (
-        Step::Seek(Search::Bounds),
+        Step::SeekBounds,
         "done; fixed on 2: order 1 2 3; lengths 1 1 1; bounds 30 93 92; passed; bounded",
     ),
     (
-        Step::Seek(Search::Plan),
+        Step::SeekPlan,
         "done; fixed on 2: order 3 2 1; lengths 1 1 1; bounds 0 0 0; passed",
     ),
     (
-        Step::Seek(Search::Bounds),
+        Step::SeekBounds,
         "done; fixed on 2: order 3 2 1; lengths 1 1 1; bounds 92 93 62; passed; bounded",
     ),
 ];
@@ -489,7 +489,7 @@ pub const SECOND_EXAMPLE: [(Step, &str); 19] = [
         "done; fixed on 2: order 1 2 3 4; lengths 1 1 1 1; bounds 0 0 0 0",
     ),
     (
-        Step::Seek(Search::Bounds),
+        Step::SeekBounds,
         "done; fixed on 2: order 1 2 3 4; lengths 1 1 1 1; bounds 10 5 10 23; bounded",
     ),
     (
@@ -497,11 +497,11 @@ pub const SECOND_EXAMPLE: [(Step, &str); 19] = [
         "done; fixed on 2: order 1 2 3 4; lengths 1 1 1 2; bounds 0 0 0 0",
     ),
     (
-        Step::Seek(Search::Bounds),
+        Step::SeekBounds,
         "done; fixed on 2: order 1 2 3 4; lengths 1 1 1 2; bounds 10 6 15 27; bounded",
     ),
     (
-        Step::Seek(Search::Lengths),
+        Step::SeekLengths,
         "done; fixed on 2: order 1 2 3 4; lengths 1 1 1 1; bounds 0 0 0 0; passed",
     ),
     (
@@ -525,7 +525,7 @@ pub const SECOND_EXAMPLE: [(Step, &str); 19] = [
         "done; fixed on 2: order 1 2 3 4; lengths 1 1 1 2; bounds 0 0 0 0",
     ),
     (
-        Step::Seek(Search::Bounds),
+        Step::SeekBounds,
         "refused by 10; fixed on 2: order 1 2 3 4; lengths 1 1 1 2; bounds 0 0 0 0",
     ),
     (
@@ -537,7 +537,7 @@ pub const SECOND_EXAMPLE: [(Step, &str); 19] = [
         "refused by 9; fixed on 2: order 1 2 3 4; lengths 1 1 1 2; bounds 0 0 0 0",
     ),
     (
-        Step::Seek(Search::Bounds),
+        Step::SeekBounds,
         "refused by 10; fixed on 2: order 1 2 3 4; lengths 1 1 1 2; bounds 0 0 0 0",
     ),
 ];

@@ -1,9 +1,10 @@
-use crate::line::line;
+use crate::line::Line;
 use crate::script::{Step, calls};
 use crate::scripts::{ANY_RULE, LIMITS, ORDERS_AND_LENGTHS, SECOND_EXAMPLE, STEADY_RULES};
 use analysis::task::Task;
+use planner::marks::Marks;
 use planner::open::OpenTable;
-use planner::replay::{Outcome, Report, Table, replay};
+use planner::replay::{Outcome, Report, Standing, Table, replay};
 use std::alloc::Global;
 use std::process::Abort;
 use std::test::Fail;
@@ -11,9 +12,6 @@ use std::test::Fail;
 // A report that no call wrote.
 const BLANK: Report = Report {
     outcome: Outcome::NotApplicable,
-    fixed: true,
-    passed: true,
-    bounded: true,
     cores: 77,
     count: 0,
     tasks: [Task {
@@ -21,10 +19,16 @@ const BLANK: Report = Report {
         deadline: 0,
         period: 0,
     }; 32],
-    order: [0; 32],
-    places: [0; 32],
-    lengths: [0; 32],
-    bounds: [0; 32],
+    fixed: Some(Standing {
+        marks: Marks {
+            passed: true,
+            bounded: true,
+        },
+        order: [0; 32],
+        places: [0; 32],
+        lengths: [0; 32],
+        bounds: [0; 32],
+    }),
 };
 
 // Plays a script on a new table by `replay`, and compares each report with its line.
@@ -33,7 +37,7 @@ fn plays(rt: &impl Abort, heap: Global, script: &[(Step, &str)]) -> Result<(), F
     let (n, _) = replay(OpenTable::new(heap)?, calls(heap, script)?, &mut reports);
     assert_eq!(rt; n, script.len());
     for (report, (_, said)) in reports.iter().zip(script.iter()) {
-        assert_eq!(rt; line(heap, report)?.as_str(), *said);
+        assert_eq!(rt; Line(report).to_string(heap)?.as_str(), *said);
     }
     Ok(())
 }
@@ -67,7 +71,7 @@ fn second_example(rt: HostRuntime) -> Result<(), Fail> {
 fn are(rt: &impl Abort, heap: Global, reports: &[Report], lines: &[&str]) -> Result<(), Fail> {
     assert_eq!(rt; reports.len(), lines.len());
     for (report, said) in reports.iter().zip(lines.iter()) {
-        assert_eq!(rt; line(heap, report)?.as_str(), *said);
+        assert_eq!(rt; Line(report).to_string(heap)?.as_str(), *said);
     }
     Ok(())
 }
@@ -85,13 +89,11 @@ fn fewer_places(rt: HostRuntime) -> Result<(), Fail> {
         &reports,
         &["done; open on 2:", "done; open on 2: 36/110/207"],
     )?;
-    match table {
-        Table::Open(t) => {
-            assert_eq!(rt; t.rows().len(), 1);
-            Ok(())
-        },
-        _ => Err(Fail::new("a fixed table")),
-    }
+    let Table::Open(t) = table else {
+        return Err(Fail::new("a fixed table"));
+    };
+    assert_eq!(rt; t.rows().len(), 1);
+    Ok(())
 }
 
 const UNTOUCHED: &str = "not applicable; fixed on 77: order; lengths; bounds; passed; bounded";
@@ -106,13 +108,11 @@ fn no_calls(rt: HostRuntime) -> Result<(), Fail> {
     let (n, table) = replay(table, calls(heap, &[])?, &mut reports);
     assert_eq!(rt; n, 0);
     are(&rt, heap, &reports, &[UNTOUCHED; 2])?;
-    match table {
-        Table::Open(t) => {
-            assert_eq!(rt; t.core_count(), 5);
-            Ok(())
-        },
-        _ => Err(Fail::new("a fixed table")),
-    }
+    let Table::Open(t) = table else {
+        return Err(Fail::new("a fixed table"));
+    };
+    assert_eq!(rt; t.core_count(), 5);
+    Ok(())
 }
 
 // fewer calls than places: the reports past the last call stay
@@ -133,11 +133,9 @@ fn more_places(rt: HostRuntime) -> Result<(), Fail> {
             UNTOUCHED,
         ],
     )?;
-    match table {
-        Table::Fixed(t) => {
-            assert_eq!(rt; t.core_count(), 4);
-            Ok(())
-        },
-        _ => Err(Fail::new("an open table, or one under a steady rule")),
-    }
+    let Table::Fixed(t) = table else {
+        return Err(Fail::new("an open table, or one under a steady rule"));
+    };
+    assert_eq!(rt; t.core_count(), 4);
+    Ok(())
 }

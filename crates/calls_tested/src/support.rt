@@ -13,11 +13,8 @@ pub fn task(cost: u32, deadline: u32, period: u32) -> Task {
 }
 
 // The number by which a call was refused, or nothing where it was carried out.
-pub fn refused(r: Result<(), Refusal>) -> Option<u8> {
-    match r {
-        Ok(()) => None,
-        Err(e) => Some(u8::from(e)),
-    }
+pub fn refused<T: Drop>(r: Result<T, Refusal>) -> Option<u8> {
+    r.err().map(u8::from)
 }
 
 // An open table with so many cores and tasks, each of them this one.

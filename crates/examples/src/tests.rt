@@ -78,20 +78,14 @@ fn questions_outside_the_limits(rt: HostRuntime) {
 }
 
 #[test]
-fn handlers_are_checked(rt: HostRuntime) -> Result<(), Fail> {
+fn handlers_are_checked(rt: HostRuntime) {
     assert!(rt; Interrupt::check(0, 10).is_err());
     assert!(rt; Interrupt::check(11, 10).is_err());
     assert!(rt; Interrupt::check(1, 65_536).is_err());
-    match Interrupt::check(0, 0) {
-        Ok(_) => {
-            assert!(rt; false);
-            Ok(())
-        },
-        Err(refusal) => {
-            assert_eq!(rt; refusal.number(), 3);
-            Ok(())
-        },
-    }
+    assert_eq!(rt;
+        Interrupt::check(0, 0).err().map(|refusal| refusal.number()),
+        Some(3)
+    );
 }
 
 // three ticks of the handler in a window of 8, and again under a second one

@@ -1,3 +1,4 @@
+pub mod OnColumns
 pub mod OnRows
 pub mod OnWrites
 pub mod Downward

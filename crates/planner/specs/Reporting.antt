@@ -1,34 +1,32 @@
 -- What a report shows of a table, and a run of calls with its reports.
-use Rattle.std.specs.Prelude.{◌≡◌, ℕ, true, false, List, [], ◌∷◌, length, take, replicate}
+use Rattle.std.specs.Prelude.{◌≡◌, ℕ, List, [], ◌∷◌, length, take, None, IsSomeAnd}
 use Rattle.interference.specs.Questions.{Query}
 use Rattle.planner.specs.declared.replay.Report.{Report}
+use Rattle.planner.specs.declared.replay.Standing.{Standing}
 use Rattle.planner.specs.Tables.{Open, Fixed}
 use Rattle.planner.specs.Reading.{standing}
 use Rattle.planner.specs.History.{Request, State, still, joined, Turn}
 use Rattle.planner.specs.Replaying.{came}
 
--- what the lists of order, places, lengths and bounds hold where there are none
-abbrev pub nothing : List ℕ
-nothing = replicate 32 0
-
 pub record ShowsOpen (m : Open) (r : Report) : Type 0 where
-  pub kind : r.fixed ≡ false
-  pub marks : (r.passed ≡ false) × (r.bounded ≡ false)
+  pub kind : r.fixed ≡ None
   pub cores : r.cores ≡ m.cores
   pub count : r.count ≡ length m.tasks
   pub tasks : take r.count r.tasks ≡ m.tasks
-  pub none : (r.order ≡ nothing) × (r.places ≡ nothing) × (r.lengths ≡ nothing) × (r.bounds ≡ nothing)
+
+-- both marks, and the first n entries of each list
+pub record ShowsStanding (m : Fixed) (n : ℕ) (s : Standing) : Type 0 where
+  pub marks : (s.marks.passed ≡ m.passed) × (s.marks.bounded ≡ m.bounded)
+  pub order : take n s.order ≡ m.order
+  pub places : take n s.places ≡ standing m.order
+  pub lengths : take n s.lengths ≡ m.lengths
+  pub bounds : take n s.bounds ≡ m.bounds
 
 pub record ShowsFixed (m : Fixed) (r : Report) : Type 0 where
-  pub kind : r.fixed ≡ true
-  pub marks : (r.passed ≡ m.passed) × (r.bounded ≡ m.bounded)
+  pub kind : IsSomeAnd r.fixed (ShowsStanding m r.count)
   pub cores : r.cores ≡ m.cores
   pub count : r.count ≡ length m.tasks
   pub tasks : take r.count r.tasks ≡ m.tasks
-  pub order : take r.count r.order ≡ m.order
-  pub places : take r.count r.places ≡ standing m.order
-  pub lengths : take r.count r.lengths ≡ m.lengths
-  pub bounds : take r.count r.bounds ≡ m.bounds
 
 abbrev pub Shows : {U : Type 0} → State U → Report → Type 0
 Shows (still m) r = ShowsOpen m r

@@ -1,10 +1,13 @@
 ghost use Rattle.std.specs.Prelude.{◌≡◌, ℕ, ◌≤◌, length, take};
+ghost use Rattle.std.specs.List.{AllZip};
+ghost use Rattle.std.specs.Fn.{FnReturnsAt};
 ghost use Rattle.planner.specs.Rows.{tasks, lengths, bounds};
 
 use crate::rows::Row;
 use analysis::task::Task;
 
-const NO_TASK: Task = Task {
+// what stands in a list where there is no task
+pub(crate) const NO_TASK: Task = Task {
     cost: 0,
     deadline: 0,
     period: 0,
@@ -15,11 +18,7 @@ pub(crate) fn tasks_of(rows: &[Row]) -> [Task; 32]
     requires { length rows.now ≤ 32 }
     ensures { take (length rows.now) result ≡ tasks rows.now }
 {
-    let mut found = [NO_TASK; 32];
-    for i in 0..rows.len() {
-        found[i] = rows[i].task;
-    }
-    found
+    column(rows, NO_TASK, |row| row.task)
 }
 
 // The lengths, in the first places.
@@ -27,11 +26,7 @@ pub(crate) fn lengths_of(rows: &[Row]) -> [u32; 32]
     requires { length rows.now ≤ 32 }
     ensures { take (length rows.now) result ≡ lengths rows.now }
 {
-    let mut found = [0; 32];
-    for i in 0..rows.len() {
-        found[i] = rows[i].length;
-    }
-    found
+    column(rows, 0, |row| row.length)
 }
 
 // The bounds, in the first places.
@@ -39,9 +34,18 @@ pub(crate) fn bounds_of(rows: &[Row]) -> [u32; 32]
     requires { length rows.now ≤ 32 }
     ensures { take (length rows.now) result ≡ bounds rows.now }
 {
-    let mut found = [0; 32];
-    for i in 0..rows.len() {
-        found[i] = rows[i].bound;
+    column(rows, 0, |row| row.bound)
+}
+
+// What one entry of each row is, in the first places.
+fn column<T: Copy, F: Fn(&Row) -> T>(rows: &[Row], blank: T, entry: F) -> [T; 32]
+    requires short { length rows.now ≤ 32 }
+    requires callable { F.IsAlwaysCallable entry }
+    ensures { AllZip (FnReturnsAt F.Fn entry) rows.now (take (length rows.now) result) }
+{
+    let mut found = [blank; 32];
+    for (i, row) in rows.iter().enumerate() {
+        found[i] = entry(row);
     }
     found
 }

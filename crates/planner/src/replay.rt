@@ -1,4 +1,6 @@
+use crate::columns::NO_TASK;
 use crate::fixed::FixedTable;
+use crate::marks::Marks;
 use crate::open::OpenTable;
 use crate::refusal::Refusal;
 use analysis::task::Task;
@@ -54,48 +56,42 @@ pub enum Table<R, S> {
 }
 
 // What came of a call. A call that is not for a table of this kind is not applicable.
-#[derive(Clone, Copy)]
+#[derive(Clone, Copy, PartialEq, Eq, Debug)]
 pub enum Outcome {
     Done,
     Refused(Refusal),
     NotApplicable,
 }
 
-// What a call left: what came of it, and the whole table. Order is from the lowest place up, by task index; places has
-// the task numbers, the highest place first; tasks, lengths and bounds are by task number. Entries from `count` on carry
-// nothing; of an open table order, places, lengths and bounds are 0.
-#[derive(Clone, Copy)]
-pub struct Report {
-    pub outcome: Outcome,
-    pub fixed: bool,
-    pub passed: bool,
-    pub bounded: bool,
-    pub cores: u32,
-    pub count: usize,
-    pub tasks: [Task; 32],
+// How the tasks of a fixed table stand. Order is from the lowest place up, by task index; places has the task numbers, the
+// highest place first; lengths and bounds are by task number.
+#[derive(Clone, Copy, PartialEq, Eq, Debug)]
+pub struct Standing {
+    pub marks: Marks,
     pub order: [usize; 32],
     pub places: [u32; 32],
     pub lengths: [u32; 32],
     pub bounds: [u32; 32],
 }
 
+// What a call left: what came of it, and the whole table; an open one has no standing. Entries of a list from `count` on
+// carry nothing: the lists are arrays, since a caller lends places for reports, and a report wants no memory.
+#[derive(Clone, Copy)]
+pub struct Report {
+    pub outcome: Outcome,
+    pub cores: u32,
+    pub count: usize,
+    pub tasks: [Task; 32],
+    pub fixed: Option<Standing>,
+}
+
 impl Report {
     // What a place for a report can hold before there is one.
     pub const BLANK: Report = Report {
         outcome: Outcome::NotApplicable,
-        fixed: false,
-        passed: false,
-        bounded: false,
         cores: 0,
         count: 0,
-        tasks: [Task {
-            cost: 0,
-            deadline: 0,
-            period: 0,
-        }; 32],
-        order: [0; 32],
-        places: [0; 32],
-        lengths: [0; 32],
-        bounds: [0; 32],
+        tasks: [NO_TASK; 32],
+        fixed: None,
     };
 }

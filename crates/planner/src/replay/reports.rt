@@ -2,9 +2,9 @@ ghost use Rattle.std.specs.Prelude.{◌≡◌, ℕ, length, take};
 ghost use Rattle.planner.specs.Tables.{Open, Fixed, held, holds};
 ghost use Rattle.planner.specs.Reading.{standing};
 ghost use Rattle.planner.specs.Replaying.{state};
-ghost use Rattle.planner.specs.Reporting.{ShowsOpen, ShowsFixed, Shows};
+ghost use Rattle.planner.specs.Reporting.{ShowsOpen, ShowsStanding, ShowsFixed, Shows};
 
-use super::{Outcome, Report, Table};
+use super::{Outcome, Report, Standing, Table};
 use crate::columns::{bounds_of, lengths_of, tasks_of};
 use crate::fixed::FixedTable;
 use crate::marks::Marks;
@@ -31,16 +31,10 @@ fn show_open(t: &OpenTable, outcome: Outcome) -> Report
     let rows = t.rows();
     Report {
         outcome,
-        fixed: false,
-        passed: false,
-        bounded: false,
         cores: t.core_count(),
         count: rows.len(),
         tasks: tasks_of(rows),
-        order: [0; 32],
-        places: [0; 32],
-        lengths: [0; 32],
-        bounds: [0; 32],
+        fixed: None,
     }
 }
 
@@ -49,15 +43,22 @@ fn show_fixed<R: Rule>(t: &FixedTable<R>, outcome: Outcome) -> Report
     ensures shows { ShowsFixed (holds t.now) result }
 {
     let rows = t.rows();
-    let (marks, places) = standing_places(t);
     Report {
         outcome,
-        fixed: true,
-        passed: marks.passed,
-        bounded: marks.bounded,
         cores: t.core_count(),
         count: rows.len(),
         tasks: tasks_of(rows),
+        fixed: Some(standing(t)),
+    }
+}
+
+fn standing<R: Rule>(t: &FixedTable<R>) -> Standing
+    ensures { ShowsStanding (holds t.now) (length (holds t.now).tasks) result }
+{
+    let rows = t.rows();
+    let (marks, places) = standing_places(t);
+    Standing {
+        marks,
         order: t.read_order(),
         places,
         lengths: lengths_of(rows),
