@@ -32,12 +32,12 @@ impl From<Fault> for Notice {
     }
 }
 
-impl Line<15> for Notice {
+impl Line<NOTICE_BYTES> for Notice {
     ghost text = { notice_line };
 
     ghost Fits = { λ _. Unit {0} };
 
-    fn line(&self) -> [u8; 15] {
+    fn line(&self) -> [u8; NOTICE_BYTES] {
         let [k1, k0] = byte_text(u8::from(Kind::Notice));
         let [n1, n0] = byte_text(self.number);
         let [y1, y0] = byte_text(self.layer);

@@ -9,6 +9,12 @@ use crate::kind::Kind;
 use crate::place::Place;
 use planner::rows::Row;
 
+pub(crate) const CORES_BYTES: usize = 5;
+
+pub(crate) const TASK_BYTES: usize = 15;
+
+pub(crate) const PLACE_BYTES: usize = 9;
+
 // What has a line in a file, of as many bytes as its kind asks for.
 pub(crate) trait Line<const N: usize> {
     ghost text: { Self → List ℕ };
@@ -25,12 +31,12 @@ pub(crate) trait Line<const N: usize> {
 #[derive(Clone, Copy)]
 pub(crate) struct Cores(pub(crate) u32);
 
-impl Line<5> for Cores {
+impl Line<CORES_BYTES> for Cores {
     ghost text = { λ c. cores_line c.0 };
 
     ghost Fits = { λ c. c.0 < 256 };
 
-    fn line(&self) -> [u8; 5] {
+    fn line(&self) -> [u8; CORES_BYTES] {
         let [k1, k0] = byte_text(u8::from(Kind::Cores));
         let [m1, m0] = byte_text(self.0 as u8);
         [k1, k0, m1, m0, b'\n']
@@ -38,12 +44,12 @@ impl Line<5> for Cores {
 }
 
 // A row's line is that of its task.
-impl Line<15> for Row {
+impl Line<TASK_BYTES> for Row {
     ghost text = { λ r. task_line r.task };
 
     ghost Fits = { λ r. TaskWithinLimits r.task };
 
-    fn line(&self) -> [u8; 15] {
+    fn line(&self) -> [u8; TASK_BYTES] {
         let [k1, k0] = byte_text(u8::from(Kind::Task));
         let [c3, c2, c1, c0] = word_text(self.task.cost as u16);
         let [d3, d2, d1, d0] = word_text(self.task.deadline as u16);
@@ -54,12 +60,12 @@ impl Line<15> for Row {
     }
 }
 
-impl Line<9> for Place {
+impl Line<PLACE_BYTES> for Place {
     ghost text = { place_line };
 
     ghost Fits = { λ p. (p.task < 256) × (p.length < 65536) };
 
-    fn line(&self) -> [u8; 9] {
+    fn line(&self) -> [u8; PLACE_BYTES] {
         let [k1, k0] = byte_text(u8::from(Kind::Place));
         let [n1, n0] = byte_text(self.task as u8);
         let [l3, l2, l1, l0] = word_text(self.length as u16);

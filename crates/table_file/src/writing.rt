@@ -10,7 +10,7 @@ ghost use Rattle.table_file.specs.Stored.{stored, of_open, of_fixed, Valid};
 use crate::place::Place;
 use crate::placing::{order_by, stretch_to};
 use crate::sheet::Sheet;
-use crate::text::{Cores, Line, put, put_all};
+use crate::text::{CORES_BYTES, Cores, Line, PLACE_BYTES, TASK_BYTES, put, put_all};
 use arrayvec::ArrayVec;
 use interference::full::Full;
 use interference::rule::Rule;
@@ -18,12 +18,6 @@ use planner::fixed::FixedTable;
 use planner::open::OpenTable;
 use planner::refusal::Refusal;
 use planner::rows::Row;
-
-const CORES_BYTES: usize = 5;
-
-const TASK_BYTES: usize = 15;
-
-const PLACE_BYTES: usize = 9;
 
 // Writes the file of an open table, without places, over the front of a text, and answers its length.
 pub fn write_open(table: &OpenTable, text: &mut [u8]) -> Result<usize, Refusal>
@@ -81,7 +75,8 @@ fn write_lines(
 // The places of a table, the highest first.
 fn places_of<R: Rule>(table: &FixedTable<R>) -> ArrayVec<Place, 32>
     requires { FixedWithinLimits (holds table.now) }
-    ensures { result.items ≡ (of_fixed (holds table.now)).places }
+    ensures places { result.items ≡ (of_fixed (holds table.now)).places }
+    ensures valid { Valid (of_fixed (holds table.now)) }
 {
     let count = table.rows().len();
     let mut numbers = [0; 32];

@@ -2,7 +2,7 @@ use Rattle.std.proofs.Common.{◌≡◌, ℕ, ◌-◌, List, length, replicate, 
 use Rattle.std.proofs.lemmas.List.{length-map}
 use Rattle.planner.specs.Tables.{holds}
 use Rattle.planner.specs.Reading.{lent}
-use Rattle.table_file.proofs.Carried.{room_for, read_filled, read_places}
+use Rattle.table_file.proofs.Carried.{fixed_valid, room_for, read_filled, read_places}
 use Rattle.table_file.proofs.writing.places_of.Goals as goal
 
 pub returns : goal.returns
@@ -13,4 +13,4 @@ returns g c =
     let zeros : List ℕ = replicate 32 0 in
     let h = read_filled m c.requires r.result (lent zeros zeros zeros) (lent r.new.tasks r.new.lengths r.new.bounds) r.ensures (room_for m c.requires zeros zeros zeros refl refl refl) in
     let count : length rows - 0 ≡ length m.tasks = omega (arith, length-map rows (λ r. r.task), ap length c.rows-count.ensures.tasks) in
-    c.pair_up.ensures ∙ read_places m c.requires zeros zeros r.new.tasks r.new.lengths h.0 h.1 _ count
+    record { places = c.pair_up.ensures ∙ read_places m c.requires zeros zeros r.new.tasks r.new.lengths h.0 h.1 _ count; valid = fixed_valid m c.requires }
