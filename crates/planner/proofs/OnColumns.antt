@@ -1,5 +1,5 @@
 -- What a closure gives of each row, as a list.
-use Rattle.std.proofs.Common.{◌≡◌, ℕ, zero, suc, ◌+◌, ◌<◌, List, [], ◌∷◌, map, length, get_or, take, set, sym, ap, subst, arith, Bor}
+use Rattle.std.proofs.Common.{◌≡◌, ℕ, zero, suc, ◌<◌, List, [], ◌∷◌, map, length, get_or, take, set, subst, arith, Bor}
 use Rattle.std.specs.List.{AllZip}
 use Rattle.std.specs.Fn.{Shared, FnReturnsAt}
 

@@ -30,3 +30,8 @@ choice_set ts n ls i f inside a b h k l =
 -- the first entries of an array, as the code takes them
 pub read_part : {X : Type 0} (k n : ℕ) (xs : List X) {ys : List X} → k ≡ n → take n xs ≡ ys → take (k - 0) xs ≡ ys
 read_part k n xs e h = let z : k - 0 ≡ n = omega arith in rw z h
+
+-- what was shown of tasks in an order, of those that a table holds
+pub ordered_as : (P : ℕ → List Task → List ℕ → Type 0) {m m' : ℕ} {ts ts' : List Task} {q q' : List ℕ} → m ≡ m' → ts ≡ ts' → q ≡ q' → P m ts q → P m' ts' q'
+ordered_as P {m} {m'} {ts} {ts'} {q} {q'} a b c h =
+    subst (λ (x : ℕ). P x ts' q') a (subst (λ (x : List Task). P m x q') b (subst (λ (x : List ℕ). P m ts x) c h))

@@ -34,7 +34,7 @@ abbrev pub fixed : ℕ → List Task → List ℕ → List ℕ → List ℕ → 
 fixed m ts q ls bs p b = record { cores = m; tasks = ts; order = q; lengths = ls; bounds = bs; passed = p; bounded = b }
 
 abbrev pub holds : {R : Type 0} → FixedTable R → Fixed
-holds t = fixed t.rows.cores (tasks (vec_items t.rows.items)) (vec_items t.order) (lengths (vec_items t.rows.items)) (bounds (vec_items t.rows.items)) t.passed t.bounded
+holds t = fixed t.rows.cores (tasks (vec_items t.rows.items)) (vec_items t.order) (lengths (vec_items t.rows.items)) (bounds (vec_items t.rows.items)) t.marks.passed t.marks.bounded
 
 -- n - 1, .. 0: places in number order, seen from the lowest up
 abbrev pub downward : ℕ → List ℕ

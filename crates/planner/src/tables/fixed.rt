@@ -3,12 +3,14 @@ ghost use Rattle.analysis.specs.Rivals.{cost_of};
 ghost use Rattle.analysis.specs.Plans.{Named, IsChoice};
 ghost use Rattle.planner.specs.Rows.{tasks, lengths};
 
+use crate::marks::Marks;
 use crate::rows::Rows;
 
 mod calls;
 mod plans;
 mod reading;
 mod responses;
+mod search;
 mod seeks;
 
 // A table joined with a rule: an order from the lowest place up, by task index, a length and a bound for each task,
@@ -18,8 +20,7 @@ pub struct FixedTable<R> {
     pub(in crate::tables) rows: Rows,
     pub(in crate::tables) order: Vec<usize>,
     pub(in crate::tables) rule: R,
-    pub(in crate::tables) passed: bool,
-    pub(in crate::tables) bounded: bool,
+    pub(in crate::tables) marks: Marks,
     ghost whole: { vec_len order ≡ vec_len rows.items },
     ghost roomy: { 32 ≤ vec_capacity order },
     ghost named: { Named (vec_len rows.items) order.items },

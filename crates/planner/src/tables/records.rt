@@ -86,7 +86,7 @@ impl Rows {
         ensures keeps { kept self.new ≡ kept self.old }
         ensures fresh { Fresh self.new.items.items }
     {
-        self.set_lengths(&[1; 32]);
+        self.set(&[1; 32], &[0; 32]);
     }
 }
 

@@ -1,9 +1,11 @@
-ghost use Rattle.std.specs.Prelude.{◌≡◌, ℕ, ◌≤◌, length, take, replicate, vec_len};
+ghost use Rattle.std.specs.Prelude.{◌≡◌, ℕ, ◌≤◌, length, take, vec_len};
 ghost use Rattle.planner.specs.Rows.{tasks, lengths, bounds};
+ghost use Rattle.planner.specs.Tables.{kept};
 
-use crate::columns::{bounds_of, lengths_of, tasks_of};
+use crate::columns::{lengths_of, tasks_of};
 use crate::rows::{Row, Rows};
 use analysis::task::Task;
+use analysis::task_set::TaskSet;
 
 impl Rows {
     // The tasks, in the first places of an array.
@@ -20,62 +22,41 @@ impl Rows {
         lengths_of(&self.items)
     }
 
-    // The bounds, in the first places of an array.
-    pub(in crate::tables) fn read_bounds(&self) -> [u32; 32]
-        ensures { take (vec_len self.now.items) result ≡ bounds self.now.items.items }
+    // The tasks that were read, as the searches take them.
+    pub(in crate::tables) fn task_set<'a>(&self, found: &'a [Task; 32]) -> TaskSet<'a>
+        requires { take (vec_len self.now.items) found.now ≡ tasks self.now.items.items }
+        ensures cores { result.cores ≡ (kept self.now).cores }
+        ensures tasks { result.tasks.now ≡ (kept self.now).tasks }
     {
-        bounds_of(&self.items)
+        TaskSet {
+            cores: self.cores,
+            tasks: &found[..self.items.len()],
+        }
     }
 
-    // Sets each length, and each bound to 0.
-    pub(in crate::tables) fn set_lengths(&mut self, found: &[u32])
-        requires { vec_len self.old.items ≤ length found.now }
+    // Sets each length and each bound.
+    pub(in crate::tables) fn set(&mut self, found: &[u32; 32], solved: &[u32; 32])
         ensures cores { self.new.cores ≡ self.old.cores }
         ensures len { vec_len self.new.items ≡ vec_len self.old.items }
         ensures tasks { tasks self.new.items.items ≡ tasks self.old.items.items }
         ensures lengths { lengths self.new.items.items ≡ take (vec_len self.old.items) found.now }
-        ensures bounds { bounds self.new.items.items ≡ replicate (vec_len self.old.items) 0 }
+        ensures bounds { bounds self.new.items.items ≡ take (vec_len self.old.items) solved.now }
     {
-        write_lengths(&mut self.items, found);
-    }
-
-    // Sets each bound.
-    pub(in crate::tables) fn set_bounds(&mut self, found: &[u32])
-        requires { vec_len self.old.items ≤ length found.now }
-        ensures cores { self.new.cores ≡ self.old.cores }
-        ensures len { vec_len self.new.items ≡ vec_len self.old.items }
-        ensures tasks { tasks self.new.items.items ≡ tasks self.old.items.items }
-        ensures lengths { lengths self.new.items.items ≡ lengths self.old.items.items }
-        ensures bounds { bounds self.new.items.items ≡ take (vec_len self.old.items) found.now }
-    {
-        write_bounds(&mut self.items, found);
+        write(&mut self.items, found, solved);
     }
 }
 
-// Sets each length, and each bound to 0.
-fn write_lengths(rows: &mut [Row], found: &[u32])
-    requires { length rows.old ≤ length found.now }
+fn write(rows: &mut [Row], found: &[u32; 32], solved: &[u32; 32])
+    requires { length rows.old ≤ 32 }
     ensures tasks { tasks rows.new ≡ tasks rows.old }
     ensures lengths { lengths rows.new ≡ take (length rows.old) found.now }
-    ensures bounds { bounds rows.new ≡ replicate (length rows.old) 0 }
+    ensures bounds { bounds rows.new ≡ take (length rows.old) solved.now }
 {
     for i in 0..rows.len() {
         rows[i] = Row {
             task: rows[i].task,
             length: found[i],
-            bound: 0,
+            bound: solved[i],
         };
-    }
-}
-
-// Sets each bound.
-fn write_bounds(rows: &mut [Row], found: &[u32])
-    requires { length rows.old ≤ length found.now }
-    ensures tasks { tasks rows.new ≡ tasks rows.old }
-    ensures lengths { lengths rows.new ≡ lengths rows.old }
-    ensures bounds { bounds rows.new ≡ take (length rows.old) found.now }
-{
-    for i in 0..rows.len() {
-        rows[i].bound = found[i];
     }
 }

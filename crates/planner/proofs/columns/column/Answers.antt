@@ -1,4 +1,4 @@
-use Rattle.std.proofs.Common.{◌+◌, refl, add-one, arith}
+use Rattle.std.proofs.Common.{refl, add-one, arith}
 use Rattle.std.specs.Fn.{FnReturnsAt}
 use Rattle.planner.specs.Rows.{no_row}
 use Rattle.planner.proofs.OnColumns.{one_more}

@@ -1,4 +1,4 @@
-use Rattle.std.proofs.Common.{◌≡◌, length, take}
+use Rattle.std.proofs.Common.{take}
 use Rattle.std.specs.List.{AllZip}
 use Rattle.std.specs.Fn.{FnReturnsAt}
 use Rattle.planner.proofs.columns.column.Given as goal

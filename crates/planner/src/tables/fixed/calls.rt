@@ -8,10 +8,13 @@ ghost use Rattle.planner.specs.Reading.{standing};
 ghost use Rattle.planner.specs.Calls.{upward, NamesEach, HasTask, LengthFits, no_bounds, OrderRefuses, OrderMakes, StretchRefuses, StretchMakes};
 
 use super::FixedTable;
+use crate::marks::Marks;
 use crate::open::OpenTable;
 use crate::refusal::Refusal;
 use crate::rows::Rows;
 use analysis::checks::is_order;
+use analysis::task::Task;
+use analysis::task_set::Ordered;
 use interference::rule::Rule;
 
 impl OpenTable {
@@ -25,8 +28,7 @@ impl OpenTable {
             rows,
             order,
             rule,
-            passed: false,
-            bounded: false,
+            marks: Marks::default(),
         }
     }
 }
@@ -44,7 +46,7 @@ fn started(rows: Rows, spare: Vec<usize>) -> (Rows, Vec<usize>)
     let mut rows = rows;
     let mut order = spare;
     number(&mut order, rows.items.len());
-    rows.set_lengths(&[1; 32]);
+    rows.set(&[1; 32], &[0; 32]);
     (rows, order)
 }
 
@@ -70,11 +72,10 @@ impl<R: Rule> FixedTable<R> {
         ensures rule { self.new.rule ≡ self.old.rule }
         ensures holds { holds self.new ≡ fixed (holds self.old).cores (holds self.old).tasks (holds self.old).order (slice_set (holds self.old).lengths (number - 1) region) (no_bounds (holds self.old)) false false }
     {
-        let mut lens = self.rows.read_lengths();
-        lens[number as usize - 1] = region;
-        self.rows.set_lengths(&lens);
-        self.passed = false;
-        self.bounded = false;
+        let order = self.read_order();
+        let mut lengths = self.rows.read_lengths();
+        lengths[number as usize - 1] = region;
+        self.arrange(&order, &lengths, Marks::default());
     }
 
     // Sets the order, from task numbers, the highest place first.
@@ -87,23 +88,35 @@ impl<R: Rule> FixedTable<R> {
         let Some(fresh) = from_below(places, count) else {
             return Err(Refusal::NotAPermutation);
         };
-        self.set_places(places, &fresh);
+        let lengths = self.rows.read_lengths();
+        self.arrange(&fresh, &lengths, Marks::default());
         Ok(())
     }
 
-    // Sets the order that the places were turned into.
-    fn set_places(&mut self, places: &[u32], fresh: &[usize; 32])
-        requires named { NamesEach (length (holds self.old).tasks) places.now }
-        requires fresh { take (length (holds self.old).tasks) fresh.now ≡ upward places.now }
-        ensures rule { self.new.rule ≡ self.old.rule }
-        ensures holds { holds self.new ≡ fixed (holds self.old).cores (holds self.old).tasks (upward places.now) (holds self.old).lengths (no_bounds (holds self.old)) false false }
-        ensures stands { standing (holds self.new).order ≡ places.now }
+    // The tasks that were read, in the standing order, as the searches take them.
+    pub(super) fn ordered<'a>(&'a self, found: &'a [Task; 32]) -> Ordered<'a>
+        requires { take (length (holds self.now).tasks) found.now ≡ (holds self.now).tasks }
+        ensures cores { result.set.cores ≡ (holds self.now).cores }
+        ensures tasks { result.set.tasks.now ≡ (holds self.now).tasks }
+        ensures order { result.order.now ≡ (holds self.now).order }
     {
-        let lens = self.rows.read_lengths();
-        self.rows.set_lengths(&lens);
-        set_order(&mut self.order, fresh);
-        self.passed = false;
-        self.bounded = false;
+        Ordered {
+            set: self.rows.task_set(found),
+            order: &self.order,
+        }
+    }
+
+    // Sets order, lengths and marks, and each bound to 0.
+    pub(super) fn arrange(&mut self, order: &[usize], lengths: &[u32; 32], marks: Marks)
+        requires long { length (holds self.old).tasks ≤ length order.now }
+        requires named { Named (length (holds self.old).tasks) (take (length (holds self.old).tasks) order.now) }
+        requires choice { IsChoice (cost_of (holds self.old).tasks) (length (holds self.old).tasks) (take (length (holds self.old).tasks) lengths.now) }
+        ensures rule { self.new.rule ≡ self.old.rule }
+        ensures holds { holds self.new ≡ fixed (holds self.old).cores (holds self.old).tasks (take (length (holds self.old).tasks) order.now) (take (length (holds self.old).tasks) lengths.now) (no_bounds (holds self.old)) marks.passed marks.bounded }
+    {
+        self.rows.set(lengths, &[0; 32]);
+        set_order(&mut self.order, order);
+        self.marks = marks;
     }
 }
 
@@ -130,22 +143,15 @@ fn from_below(places: &[u32], count: usize) -> Option<[usize; 32]>
     }
 }
 
-pub(super) fn set_order(order: &mut Vec<usize>, fresh: &[usize])
+// Puts the first numbers of a list in the place of those of an order.
+fn set_order(order: &mut Vec<usize>, fresh: &[usize])
     requires { vec_len order.old ≤ length fresh.now }
     ensures items { order.new.items ≡ take (vec_len order.old) fresh.now }
     ensures len { vec_len order.new ≡ vec_len order.old }
     ensures room { vec_capacity order.new ≡ vec_capacity order.old }
 {
-    write_order(order, fresh);
-}
-
-fn write_order(order: &mut [usize], fresh: &[usize])
-    requires { length order.old ≤ length fresh.now }
-    ensures { order.new ≡ take (length order.old) fresh.now }
-{
-    for p in 0..order.len() {
-        order[p] = fresh[p];
-    }
+    let count = order.len();
+    order.copy_from_slice(&fresh[..count]);
 }
 
 impl<R: Rule + Drop> FixedTable<R> {

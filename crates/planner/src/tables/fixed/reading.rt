@@ -49,10 +49,7 @@ impl<R: Rule> FixedTable<R> {
             return Err(Refusal::TooShort);
         }
         self.fill(tasks, lengths, bounds);
-        Ok(Marks {
-            passed: self.passed,
-            bounded: self.bounded,
-        })
+        Ok(self.marks)
     }
 
     // The order from the lowest place up, by task index, in the first places of an array.
@@ -76,10 +73,8 @@ fn order_of(order: &[usize]) -> [usize; 32]
     requires { length order.now ≤ 32 }
     ensures { take (length order.now) result ≡ order.now }
 {
-    let mut found = [0usize; 32];
-    for i in 0..order.len() {
-        found[i] = order[i];
-    }
+    let mut found = [0; 32];
+    found[..order.len()].copy_from_slice(order);
     found
 }
 

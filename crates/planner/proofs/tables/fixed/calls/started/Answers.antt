@@ -11,12 +11,12 @@ pub returns : goal.returns
 returns c =
     let t = c.args.rows in
     let ts = tasks t.items.items in
-    let s = c.set_lengths.ensures in
+    let s = c.set.ensures in
     let o = c.number.ensures in
     let n : vec_len t.items ≡ length ts = omega (arith, length-map t.items.items (λ r. r.task), t.items.ok.0) in
     record {
       holds = fixed_as false false s.cores s.tasks (o.items ∙ ap downward (c.len.ensures ∙ n))
-          (s.lengths ∙ take_replicate (vec_len t.items) 32 1 t.few ∙ ap (λ k. replicate k 1) n) (s.bounds ∙ ap (λ k. replicate k 0) n);
+          (s.lengths ∙ take_replicate (vec_len t.items) 32 1 t.few ∙ ap (λ k. replicate k 1) n) (s.bounds ∙ take_replicate (vec_len t.items) 32 0 t.few ∙ ap (λ k. replicate k 0) n);
       whole = omega (arith, s.len, o.len, c.len.ensures);
       roomy = o.room;
       named = named_as (downward (vec_len t.items)) _ (vec_len t.items) _ (o.items ∙ ap downward c.len.ensures) s.len (downward_named (vec_len t.items));
