@@ -1,13 +1,17 @@
 -- Tasks, who stands below whom, and what the other tasks are to one of them.
 -- Tasks are numbered from 0 here, by their place in the list of tasks. An order is a list of task numbers from the
 -- lowest place up. Lengths, finishes and bounds are lists by task number.
-use Rattle.std.specs.Prelude.{ℕ, zero, suc, ◌-◌, ◌<◌, ◌≤◌, Bool, true, false, cond, not, ◌&&◌, List, [], ◌∷◌, ◌++◌, map, length, ◌==◌, slice_index, slice_index_or}
+use Rattle.std.specs.Prelude.{ℕ, zero, suc, ◌-◌, ◌<◌, ◌≤◌, Bool, true, false, cond, not, ◌&&◌, List, [], ◌∷◌, ◌++◌, map, length, decimal, codes, ◌==◌, slice_index, slice_index_or}
 use Rattle.interference.specs.declared.rival.Rival.{Rival}
 use Rattle.analysis.specs.declared.task.Task.{Task}
 
 -- read past the end of a list
 abbrev pub no_task : Task
 no_task = record { cost = 0; deadline = 0; period = 0 }
+
+-- what a task prints as
+abbrev pub task_text : Task → List ℕ
+task_text t = codes "cost " ++ (decimal t.cost ++ (codes ", deadline " ++ (decimal t.deadline ++ (codes ", period " ++ decimal t.period))))
 
 abbrev pub cost_of : List Task → ℕ → ℕ
 cost_of ts k = (slice_index_or ts k no_task).cost

@@ -1,8 +1,11 @@
-ghost use Rattle.std.specs.Prelude.{◌≡◌, ℕ, ◌≤◌, length};
+ghost use Rattle.std.specs.Prelude.{◌≡◌, ℕ, ◌≤◌, length, MatchOption};
 ghost use Rattle.analysis.specs.Rivals.{TasksWithinLimits, cost_of};
-ghost use Rattle.analysis.specs.Plans.{Named, IsChoice};
+ghost use Rattle.analysis.specs.Plans.{Named, IsOrder, IsChoice};
 
+use crate::checks::{is_choice, is_order, is_task_set};
 use crate::task::Task;
+
+const MOST_TO_PLAN: usize = 8;
 
 // At most 32 tasks within their limits, by number, on 1 to 16 cores.
 #[derive(Clone, Copy)]
@@ -15,6 +18,43 @@ pub struct TaskSet<'a> {
     ghost limits: { TasksWithinLimits tasks.now },
 }
 
+impl<'a> TaskSet<'a> {
+    // None exactly where a limit does not hold.
+    pub fn check(cores: u32, tasks: &'a [Task]) -> Option<TaskSet<'a>>
+        ensures { MatchOption result ((1 ≤ cores) × (cores ≤ 16) × (length tasks.now ≤ 32) × TasksWithinLimits tasks.now → ⊥)
+            (λ set. (set.cores ≡ cores) × (set.tasks.now ≡ tasks.now)) }
+    {
+        if is_task_set(cores, tasks) {
+            Some(TaskSet { cores, tasks })
+        } else {
+            None
+        }
+    }
+
+    // None exactly where the list does not name each task once.
+    pub fn ordered(self, order: &'a [usize]) -> Option<Ordered<'a>>
+        ensures { MatchOption result (IsOrder (length self.entry.tasks.now) order.now → ⊥)
+            (λ o. (o.set ≡ self.entry) × (o.order.now ≡ order.now)) }
+    {
+        if is_order(self.tasks.len(), order) {
+            Some(Ordered { set: self, order })
+        } else {
+            None
+        }
+    }
+
+    // None exactly where there are too many tasks to search all orders of them.
+    pub fn small(self) -> Option<SmallSet<'a>>
+        ensures { MatchOption result (length self.entry.tasks.now ≤ 8 → ⊥) (λ s. s.set ≡ self.entry) }
+    {
+        if self.tasks.len() <= MOST_TO_PLAN {
+            Some(SmallSet { set: self })
+        } else {
+            None
+        }
+    }
+}
+
 // Tasks in an order: it names each of them once, from the lowest place up.
 #[derive(Clone, Copy)]
 pub struct Ordered<'a> {
@@ -22,6 +62,23 @@ pub struct Ordered<'a> {
     pub order: &'a [usize],
     ghost whole: { length order.now ≡ length set.tasks.now },
     ghost named: { Named (length set.tasks.now) order.now },
+}
+
+impl<'a> Ordered<'a> {
+    // None exactly where a task has no length from 1 to its cost.
+    pub fn arranged(self, lengths: &'a [u32]) -> Option<Arranged<'a>>
+        ensures { MatchOption result ((length self.entry.set.tasks.now ≤ length lengths.now) × IsChoice (cost_of self.entry.set.tasks.now) (length self.entry.set.tasks.now) lengths.now → ⊥)
+            (λ a. (a.ordered ≡ self.entry) × (a.lengths.now ≡ lengths.now)) }
+    {
+        if is_choice(self.set.tasks, lengths) {
+            Some(Arranged {
+                ordered: self,
+                lengths,
+            })
+        } else {
+            None
+        }
+    }
 }
 
 // Tasks in an order, each with a region length from 1 to its cost.
