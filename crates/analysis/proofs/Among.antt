@@ -1,10 +1,20 @@
 -- Which tasks a list names.
-use Rattle.std.proofs.Common.{◌≡◌, ℕ, zero, suc, ◌+◌, ◌<◌, ◌≤◌, Bool, true, false, cond, eqb, List, [], ◌∷◌, ◌++◌, length, get_or, take, sym, refl, ap, ◌∙◌, subst, ⊎_elim, add-one, arith, length-append}
+use Rattle.std.proofs.Common.{◌≡◌, ℕ, zero, suc, ◌+◌, ◌<◌, ◌≤◌, Bool, true, false, cond, ◌||◌, eqb, List, [], ◌∷◌, ◌++◌, length, get_or, take, sym, refl, ap, ◌∙◌, subst, ⊎_elim, add-one, arith, length-append}
+use Rattle.std.specs.List.{list_any}
 use Rattle.std.proofs.lemmas.List.{length_push, append-nil, take_more, take_all}
 use Rattle.std.proofs.lemmas.Bool.{both_ways, cond-true, cond-false, cases_Bool, eq-eqb, eqb-true, ne_eqb, false≢true, cases_order}
 use Rattle.analysis.specs.Rivals.{among, picked, under}
 use Rattle.analysis.specs.Plans.{Named, IsOrder}
 use Rattle.analysis.proofs.Picked.{picked_fewer}
+
+or_cond : (a b : Bool) → (a || b) ≡ cond a true b
+or_cond true b = refl
+or_cond false b = refl
+
+-- as `contains` says it
+pub any_among : (low : List ℕ) (j : ℕ) → list_any (λ x. eqb x j) low ≡ among low j
+any_among [] j = refl
+any_among (x ∷ xs) j = or_cond (eqb x j) (list_any (λ x. eqb x j) xs) ∙ ap (λ t. cond (eqb x j) true t) (any_among xs j)
 
 pub among_none : (low : List ℕ) (x : ℕ) → among low x ≡ false → (p : ℕ) → p < length low → get_or low p 0 ≡ x → ⊥
 among_none [] x e p l h = omega arith

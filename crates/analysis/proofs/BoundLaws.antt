@@ -5,18 +5,28 @@ use Rattle.interference.specs.declared.rival.Rival.{Rival}
 use Rattle.interference.specs.Laws.{NoEarlier, NoSmaller, Lawful}
 use Rattle.interference.proofs.GrowthLaws.{grows_together}
 use Rattle.interference.specs.Questions.{Query, Valid, RivalsWithinLimits, posed}
-use Rattle.analysis.specs.Rivals.{TasksWithinLimits, cost_of, among, above, below, upper_rival, lower_rival, uppers, lowers, limit_of, under}
+use Rattle.analysis.specs.Rivals.{finish_limit, TasksWithinLimits, cost_of, among, above, below, upper_rival, lower_rival, uppers, lowers, limit_of, under}
 use Rattle.analysis.specs.Plans.{IsChoice, IsOrder}
+use Rattle.analysis.specs.declared.level.Finishes.{Finishes}
+use Rattle.analysis.specs.declared.level.Finishes.TheVariants.{Limits, Bounds}
+use Rattle.analysis.specs.Finishes.{latest, Fit}
 use Rattle.analysis.specs.Bounds.{next_bound, bound_of, response_of, BoundsWithin, Solution, LeastSolution, NoSolution}
 use Rattle.analysis.specs.Steps.{Overrun, Rising}
 use Rattle.analysis.specs.declared.task.Task.{Task}
+use Rattle.analysis.specs.declared.place.Place.{Place}
+use Rattle.analysis.specs.Words.{RegionOf, next_at}
 use Rattle.analysis.proofs.Among.{everyone}
 use Rattle.analysis.proofs.Picked.{each_picked}
-use Rattle.analysis.proofs.RivalLaws.{Late, question_valid, div_grows}
+use Rattle.analysis.proofs.RivalLaws.{limits_late, Late, question_valid, div_grows}
 
 -- within the finish_limits
 pub within_late : (ts : List Task) → TasksWithinLimits ts → (bs : List ℕ) → BoundsWithin (length ts) (cost_of ts) (limit_of ts) bs → Late ts bs
 within_late ts s bs w j l = let h = s j l in let b = w j l in (omega arith, omega arith)
+
+-- so are the latest finishes of a level
+pub fit_late : (ts : List Task) → TasksWithinLimits ts → (late : Finishes) → Fit ts late → Late ts (latest ts late)
+fit_late ts s Limits f = limits_late ts s
+fit_late ts s (Bounds bs) f = within_late ts s bs.now f.1
 
 pub valid_bound : (m c f d b : ℕ) (us ls : List Rival) → 1 ≤ m → m ≤ 16 → 1 ≤ f → f ≤ c → c ≤ b → b ≤ d → d ≤ 65535 → length us + length ls ≤ 31 → RivalsWithinLimits us → RivalsWithinLimits ls
     → Valid (posed m (b - (f - 1)) (c - (f - 1)) f us ls)
@@ -77,11 +87,17 @@ module _ (sum : Query → ℕ) (laws : Lawful sum) (m : ℕ) (some : 1 ≤ m) (m
         (get_or bs k 0 - (f - 1), omega arith, omega arith);
   }
 
-pub next_bound_grows : (sum : Query → ℕ) → Lawful sum → (m c f d : ℕ) (us ls : List Rival) → 1 ≤ m → m ≤ 16 → 1 ≤ f → f ≤ c → d ≤ 65535 → length us + length ls ≤ 31 → RivalsWithinLimits us → RivalsWithinLimits ls
+next_bound_grows : (sum : Query → ℕ) → Lawful sum → (m c f d : ℕ) (us ls : List Rival) → 1 ≤ m → m ≤ 16 → 1 ≤ f → f ≤ c → d ≤ 65535 → length us + length ls ≤ 31 → RivalsWithinLimits us → RivalsWithinLimits ls
     → (v w : ℕ) → c ≤ v → v ≤ w → w ≤ d → next_bound sum m c f us ls v ≤ next_bound sum m c f us ls w
 next_bound_grows sum laws m c f d us ls a b e g h few hu hl v w i j k =
     next_bound_widens sum laws m c f us ls a v w j
     (valid_bound m c f d v us ls a b e g i (omega arith) h few hu hl) (valid_bound m c f d w us ls a b e g (omega arith) k h few hu hl)
+
+-- the same of a task between its rivals
+pub next_grows : (sum : Query → ℕ) → Lawful sum → (p : Place) (f : ℕ) → RegionOf p f → (v w : ℕ) → p.task.cost ≤ v → v ≤ w → w ≤ finish_limit p.task → next_at sum p f v ≤ next_at sum p f w
+next_grows sum laws p f r =
+    let h = p.limits in
+    next_bound_grows sum laws p.cores p.task.cost f (finish_limit p.task) p.upper.items p.lower.items p.some p.most r.0 r.1 (omega arith) p.few p.uppers p.lowers
 
 -- bounds that rose, and solve the equation at each place, are the least solution
 module _ (sum : Query → ℕ) (laws : Lawful sum) (m : ℕ) (some : 1 ≤ m) (most : m ≤ 16) (ts : List Task) (sound : TasksWithinLimits ts) (few : length ts ≤ 32) (q lens : List ℕ) (choice : IsChoice (cost_of ts) (length ts) lens) where

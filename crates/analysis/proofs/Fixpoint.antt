@@ -1,5 +1,5 @@
 -- Bounds that rise one at a time to their own least solutions.
-use Rattle.std.proofs.Common.{◌≡◌, ℕ, zero, suc, ◌-◌, ◌<◌, ◌≤◌, Bool, true, false, ◌||◌, List, length, get_or, set, MatchBool, sym, ap, ◌∙◌, subst, ⊎_elim, arith}
+use Rattle.std.proofs.Common.{Option, None, MatchOption, ◌≡◌, ℕ, zero, suc, ◌-◌, ◌<◌, ◌≤◌, Bool, true, false, ◌||◌, List, length, get_or, set, MatchBool, sym, ap, ◌∙◌, subst, ⊎_elim, arith}
 use Rattle.std.proofs.lemmas.List.{get_or-set_same, get_or-set_other}
 use Rattle.std.proofs.lemmas.Bool.{cases_eq, cases_order, true≢false, false≢true}
 use Rattle.analysis.specs.Bounds.{BoundsWithin}
@@ -129,6 +129,9 @@ module _ (T : List ℕ → ℕ) (Solved : List ℕ → ℕ → Type 0) (top : �
 pub sweep_all : (changed : Bool) (A E L : Type 0) (P : ℕ → Type 0) (top p : ℕ) → p ≡ 0 → MatchBool changed A (E × ((i : ℕ) → p ≤ i → i < top → P i)) → (((i : ℕ) → i < top → P i) → L) → MatchBool changed A L
 sweep_all true A E L P top p e h f = h
 sweep_all false A E L P top p e h f = f (λ i l. h.1 i (omega arith) l)
+
+pub when_none : {A : Type 0} (N : Type 0) (S : A → Type 0) {r : Option A} → r ≡ None → N → MatchOption r N S
+when_none N S e n = subst (λ o. MatchOption o N S) (sym e) n
 
 pub when_yes : (b : Bool) (A B : Type 0) → b ≡ true → MatchBool b A B → A
 when_yes true A B e h = h

@@ -11,6 +11,8 @@ use Rattle.analysis.specs.Rivals.{no_task, TasksWithinLimits, finish_limits, cos
 use Rattle.analysis.specs.Passing.{asked, PassesOver}
 use Rattle.analysis.specs.Plans.{IsChoice}
 use Rattle.analysis.specs.declared.task.Task.{Task}
+use Rattle.analysis.specs.declared.task_set.TaskSet.{TaskSet}
+use Rattle.analysis.specs.Words.{test_of}
 use Rattle.analysis.proofs.Among.{among_place}
 use Rattle.analysis.proofs.Picked.{all_picked, each_picked, picked_fewer}
 
@@ -90,5 +92,16 @@ module _ (ts : List Task) (sound : TasksWithinLimits ts) (few : length ts ≤ 32
 pub part : {X : Type 0} (n : ℕ) (xs : List X) {ys : List X} → take n xs ≡ ys → take (n - 0) xs ≡ ys
 part n xs e = let z : n - 0 ≡ n = omega arith in rw z e
 
-pub ones : (k : ℕ) → k < 32 → ◌≡◌ {A = ℕ} (get_or (replicate 32 1) k 0) 1
+ones : (k : ℕ) → k < 32 → ◌≡◌ {A = ℕ} (get_or (replicate 32 1) k 0) 1
 ones k l = get_or-replicate 32 k 1 0 l
+
+-- the lengths before a search
+pub ones_choice : (s : TaskSet) → IsChoice (cost_of s.tasks.now) (length s.tasks.now) (replicate 32 1)
+ones_choice s k l = let h = s.limits k l in let few = s.few in let e = ones k (omega arith) in (omega arith, omega arith)
+
+-- of the tasks of a set
+pub set_falls : (sum : Query → ℕ) → Lawful sum → (s : TaskSet) → (low : List ℕ) (k : ℕ) (lens other : List ℕ) (f : ℕ) → k < length s.tasks.now → 1 ≤ f → f ≤ cost_of s.tasks.now k
+    → IsChoice (cost_of s.tasks.now) (length s.tasks.now) lens → IsChoice (cost_of s.tasks.now) (length s.tasks.now) other
+    → ((p : ℕ) → p < length low → get_or lens (get_or low p 0) 0 ≤ get_or other (get_or low p 0) 0)
+    → test_of sum s low k other f → test_of sum s low k lens f
+set_falls sum laws s = passes_falls s.tasks.now s.limits s.few s.cores s.some s.most sum laws

@@ -4,7 +4,6 @@ use Rattle.std.proofs.lemmas.List.{length_push, take_more, take_more_set, nil_fr
 use Rattle.std.proofs.lemmas.Bool.{cases_lt}
 use Rattle.analysis.specs.Rivals.{among}
 use Rattle.analysis.specs.Plans.{Before, Named, IsOrder}
-use Rattle.analysis.proofs.Rank.{rank, placed_falls, back_falls}
 
 before_nil : (q : List ℕ) → Before q [] → ⊥
 before_nil [] b = b
@@ -90,29 +89,8 @@ module _ (n : ℕ) (Bad : List ℕ → Type 0) where
         before_begins q (pre ++ y ∷ []) n t room (order.1 (length (pre ++ y ∷ [])) room).0)
         (before_upto q pre y (y + 1) b))
 
--- the steps over the array that holds the tasks placed
-module _ (n : ℕ) (few : n ≤ 8) (order : List ℕ) (long : length order ≡ 8) (depth next : ℕ) (inside : depth < n) where
-  front : length (take depth order) ≡ depth
-  front = length-take-le depth order (omega arith)
-
-  pub place_falls : (x : ℕ) → x < n → next ≤ x → rank 8 (take (depth + 1) (set order depth x)) 0 < rank 8 (take depth order) next
-  place_falls x lt le =
-      subst (λ l. rank 8 l 0 < rank 8 (take depth order) next) (sym (take_more_set order depth x (omega arith)))
-      (placed_falls 8 (take depth order) x next (omega (arith, front)) (omega arith) le)
-
-  module _ (some : depth ≡ 0 → ⊥) where
-    pub whole : take depth order ≡ take (depth - 1) order ++ get_or order (depth - 1) 0 ∷ []
-    whole = ap (λ k. take k order) (omega arith) ∙ take_more order (depth - 1) 0 (omega arith)
-
-    pub before : length (take (depth - 1) order) ≡ depth - 1
-    before = length-take-le (depth - 1) order (omega arith)
-
-    pub back_below : Named n (take depth order) → get_or order (depth - 1) 0 < n
-    back_below h =
-        let g : get_or (take depth order) (depth - 1) 0 ≡ get_or order (depth - 1) 0 = ap (λ l. get_or l (depth - 1) 0) whole ∙ get_or_push (take (depth - 1) order) (get_or order (depth - 1) 0) 0 (depth - 1) before in
-        omega (arith, g, (h (depth - 1) (omega (arith, front))).0)
-
-    pub back_lower : get_or order (depth - 1) 0 < n → next ≤ 8 → rank 8 (take (depth - 1) order) (get_or order (depth - 1) 0 + 1) < rank 8 (take depth order) next
-    back_lower lt le =
-        subst (λ l. rank 8 (take (depth - 1) order) (get_or order (depth - 1) 0 + 1) < rank 8 l next) (sym whole)
-        (back_falls 8 (take (depth - 1) order) (get_or order (depth - 1) 0) next (omega (arith, before)) (omega arith) le)
+-- the task that was placed last
+pub last_below : (n : ℕ) (pre : List ℕ) (y : ℕ) → Named n (pre ++ y ∷ []) → y < n
+last_below n pre y h =
+    let g : get_or (pre ++ y ∷ []) (length pre) 0 ≡ y = get_or_push pre y 0 (length pre) refl in
+    omega (arith, g, (h (length pre) (omega (arith, length_push pre y))).0)

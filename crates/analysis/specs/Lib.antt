@@ -1,6 +1,9 @@
 pub mod Rivals
+pub mod Finishes
 pub mod Passing
 pub mod Plans
 pub mod Bounds
 pub mod Steps
 pub mod FourTests
+pub mod Words
+pub mod Planned

@@ -1,6 +1,6 @@
 ghost use Rattle.std.specs.Prelude.{ℕ, ◌≤◌};
-ghost use Rattle.analysis.specs.Passing.{Meets};
 ghost use Rattle.analysis.specs.Steps.{FirstTo};
+ghost use Rattle.analysis.specs.Words.{MeetsAt};
 
 use crate::passing::passes;
 use crate::place::Place;
@@ -10,7 +10,7 @@ use interference::steady::SteadyRule;
 // A way to find the first region length that passes under a rule.
 pub trait Finder<R: Rule> {
     fn first(&self, rule: &R, place: &Place) -> Option<u32>
-        ensures { FirstTo (Meets (R.Rule.meaning rule.now) place.now.cores place.now.task place.now.upper.now place.now.lower.now) place.now.task.cost result };
+        ensures { FirstTo (MeetsAt (R.Rule.meaning rule.now) place.now) place.now.task.cost result };
 }
 
 // Tries 1, 2, 3 and so on, and stops at the first that passes.
@@ -19,7 +19,12 @@ pub struct Trying;
 
 impl<R: Rule> Finder<R> for Trying {
     fn first(&self, rule: &R, place: &Place) -> Option<u32> {
-        first_length(rule, place)
+        'lengths: for f in 1..=place.task.cost {
+            if passes(rule, place, f) {
+                return Some(f);
+            }
+        }
+        None
     }
 }
 
@@ -29,41 +34,20 @@ pub struct Halving;
 
 impl<R: SteadyRule> Finder<R> for Halving {
     fn first(&self, rule: &R, place: &Place) -> Option<u32> {
-        quick_length(rule, place)
-    }
-}
-
-fn first_length<R: Rule>(rule: &R, place: &Place) -> Option<u32>
-    ensures { FirstTo (Meets (R.Rule.meaning rule.now) place.now.cores place.now.task place.now.upper.now place.now.lower.now) place.now.task.cost result }
-{
-    let mut f = 1;
-    'lengths: loop {
-        if f > place.task.cost {
-            break 'lengths None;
+        rule.steadies();
+        if !passes(rule, place, place.task.cost) {
+            return None;
         }
-        if passes(rule, place, f) {
-            break 'lengths Some(f);
+        let mut least = 1;
+        let mut most = place.task.cost;
+        'halving: while least < most {
+            let half = least + (most - least) / 2;
+            if passes(rule, place, half) {
+                most = half;
+            } else {
+                least = half + 1;
+            }
         }
-        f += 1;
+        Some(most)
     }
-}
-
-fn quick_length<R: SteadyRule>(rule: &R, place: &Place) -> Option<u32>
-    ensures { FirstTo (Meets (R.Rule.meaning rule.now) place.now.cores place.now.task place.now.upper.now place.now.lower.now) place.now.task.cost result }
-{
-    rule.steadies();
-    if !passes(rule, place, place.task.cost) {
-        return None;
-    }
-    let mut least = 1;
-    let mut most = place.task.cost;
-    'halving: while least < most {
-        let half = least + (most - least) / 2;
-        if passes(rule, place, half) {
-            most = half;
-        } else {
-            least = half + 1;
-        }
-    }
-    Some(most)
 }

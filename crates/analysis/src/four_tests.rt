@@ -1,9 +1,10 @@
-ghost use Rattle.std.specs.Prelude.{ℕ, ◌<◌, ◌≤◌, List, length, MatchBool};
+ghost use Rattle.std.specs.Prelude.{ℕ, ◌<◌, ◌≤◌, List, length};
 ghost use Rattle.interference.specs.Sums.{full_sum, limited_sum};
 ghost use Rattle.analysis.specs.declared.task.Task.{Task as Row};
 ghost use Rattle.analysis.specs.Passing.{Passes};
 ghost use Rattle.analysis.specs.Bounds.{Solution};
 ghost use Rattle.analysis.specs.FourTests.{DeadlineAnalysis, LimitedDeadlineAnalysis, ResponseTimeAnalysis, LimitedResponseTimeAnalysis, Equivalent};
+ghost use Rattle.analysis.specs.Words.{Tells};
 
 use crate::task_set::Arranged;
 use crate::verdict::{is_solution, task_passes};
@@ -12,72 +13,32 @@ use interference::limited::Limited;
 
 // Deadline analysis of one task.
 pub fn deadline_analysis(tasks: &Arranged, k: usize) -> bool
-    ensures decides { MatchBool result ((k < length tasks.now.ordered.set.tasks.now) × DeadlineAnalysis tasks.now.ordered.set.cores tasks.now.ordered.set.tasks.now tasks.now.ordered.order.now tasks.now.lengths.now k)
-        ((k < length tasks.now.ordered.set.tasks.now) × DeadlineAnalysis tasks.now.ordered.set.cores tasks.now.ordered.set.tasks.now tasks.now.ordered.order.now tasks.now.lengths.now k → ⊥) }
+    ensures decides { Tells result ((k < length tasks.now.ordered.set.tasks.now) × DeadlineAnalysis tasks.now.ordered.set.cores tasks.now.ordered.set.tasks.now tasks.now.ordered.order.now tasks.now.lengths.now k) }
     ensures general { (m : ℕ) (ts : List Row) (q lens : List ℕ) (j : ℕ) → Equivalent (Passes full_sum m ts q lens j) (DeadlineAnalysis m ts q lens j) }
 {
-    as_deadline_analysis(tasks, k, task_passes(&Full, tasks, k))
-}
-
-fn as_deadline_analysis(tasks: &Arranged, k: usize, passes: bool) -> bool
-    requires { MatchBool passes ((k < length tasks.now.ordered.set.tasks.now) × Passes full_sum tasks.now.ordered.set.cores tasks.now.ordered.set.tasks.now tasks.now.ordered.order.now tasks.now.lengths.now k) ((k < length tasks.now.ordered.set.tasks.now) × Passes full_sum tasks.now.ordered.set.cores tasks.now.ordered.set.tasks.now tasks.now.ordered.order.now tasks.now.lengths.now k → ⊥) }
-    ensures decides { MatchBool result ((k < length tasks.now.ordered.set.tasks.now) × DeadlineAnalysis tasks.now.ordered.set.cores tasks.now.ordered.set.tasks.now tasks.now.ordered.order.now tasks.now.lengths.now k)
-        ((k < length tasks.now.ordered.set.tasks.now) × DeadlineAnalysis tasks.now.ordered.set.cores tasks.now.ordered.set.tasks.now tasks.now.ordered.order.now tasks.now.lengths.now k → ⊥) }
-    ensures general { (m : ℕ) (ts : List Row) (q lens : List ℕ) (j : ℕ) → Equivalent (Passes full_sum m ts q lens j) (DeadlineAnalysis m ts q lens j) }
-{
-    passes
+    task_passes(&Full, tasks, k)
 }
 
 // Deadline analysis of one task with limited carry-in.
 pub fn limited_deadline_analysis(tasks: &Arranged, k: usize) -> bool
-    ensures decides { MatchBool result ((k < length tasks.now.ordered.set.tasks.now) × LimitedDeadlineAnalysis tasks.now.ordered.set.cores tasks.now.ordered.set.tasks.now tasks.now.ordered.order.now tasks.now.lengths.now k)
-        ((k < length tasks.now.ordered.set.tasks.now) × LimitedDeadlineAnalysis tasks.now.ordered.set.cores tasks.now.ordered.set.tasks.now tasks.now.ordered.order.now tasks.now.lengths.now k → ⊥) }
+    ensures decides { Tells result ((k < length tasks.now.ordered.set.tasks.now) × LimitedDeadlineAnalysis tasks.now.ordered.set.cores tasks.now.ordered.set.tasks.now tasks.now.ordered.order.now tasks.now.lengths.now k) }
     ensures general { (m : ℕ) (ts : List Row) (q lens : List ℕ) (j : ℕ) → Equivalent (Passes limited_sum m ts q lens j) (LimitedDeadlineAnalysis m ts q lens j) }
 {
-    as_limited_deadline_analysis(tasks, k, task_passes(&Limited, tasks, k))
-}
-
-fn as_limited_deadline_analysis(tasks: &Arranged, k: usize, passes: bool) -> bool
-    requires { MatchBool passes ((k < length tasks.now.ordered.set.tasks.now) × Passes limited_sum tasks.now.ordered.set.cores tasks.now.ordered.set.tasks.now tasks.now.ordered.order.now tasks.now.lengths.now k) ((k < length tasks.now.ordered.set.tasks.now) × Passes limited_sum tasks.now.ordered.set.cores tasks.now.ordered.set.tasks.now tasks.now.ordered.order.now tasks.now.lengths.now k → ⊥) }
-    ensures decides { MatchBool result ((k < length tasks.now.ordered.set.tasks.now) × LimitedDeadlineAnalysis tasks.now.ordered.set.cores tasks.now.ordered.set.tasks.now tasks.now.ordered.order.now tasks.now.lengths.now k)
-        ((k < length tasks.now.ordered.set.tasks.now) × LimitedDeadlineAnalysis tasks.now.ordered.set.cores tasks.now.ordered.set.tasks.now tasks.now.ordered.order.now tasks.now.lengths.now k → ⊥) }
-    ensures general { (m : ℕ) (ts : List Row) (q lens : List ℕ) (j : ℕ) → Equivalent (Passes limited_sum m ts q lens j) (LimitedDeadlineAnalysis m ts q lens j) }
-{
-    passes
+    task_passes(&Limited, tasks, k)
 }
 
 // Response time analysis of bounds by task number.
 pub fn response_time_analysis(tasks: &Arranged, bounds: &[u32]) -> bool
-    ensures decides { MatchBool result ((length tasks.now.ordered.set.tasks.now ≤ length bounds.now) × ResponseTimeAnalysis tasks.now.ordered.set.cores tasks.now.ordered.set.tasks.now tasks.now.ordered.order.now tasks.now.lengths.now bounds.now)
-        ((length tasks.now.ordered.set.tasks.now ≤ length bounds.now) × ResponseTimeAnalysis tasks.now.ordered.set.cores tasks.now.ordered.set.tasks.now tasks.now.ordered.order.now tasks.now.lengths.now bounds.now → ⊥) }
+    ensures decides { Tells result ((length tasks.now.ordered.set.tasks.now ≤ length bounds.now) × ResponseTimeAnalysis tasks.now.ordered.set.cores tasks.now.ordered.set.tasks.now tasks.now.ordered.order.now tasks.now.lengths.now bounds.now) }
     ensures general { (m : ℕ) (ts : List Row) (q lens bs : List ℕ) → Equivalent (Solution full_sum m ts q lens bs) (ResponseTimeAnalysis m ts q lens bs) }
 {
-    as_response_time_analysis(tasks, bounds, is_solution(&Full, tasks, bounds))
-}
-
-fn as_response_time_analysis(tasks: &Arranged, bounds: &[u32], solves: bool) -> bool
-    requires { MatchBool solves ((length tasks.now.ordered.set.tasks.now ≤ length bounds.now) × Solution full_sum tasks.now.ordered.set.cores tasks.now.ordered.set.tasks.now tasks.now.ordered.order.now tasks.now.lengths.now bounds.now) ((length tasks.now.ordered.set.tasks.now ≤ length bounds.now) × Solution full_sum tasks.now.ordered.set.cores tasks.now.ordered.set.tasks.now tasks.now.ordered.order.now tasks.now.lengths.now bounds.now → ⊥) }
-    ensures decides { MatchBool result ((length tasks.now.ordered.set.tasks.now ≤ length bounds.now) × ResponseTimeAnalysis tasks.now.ordered.set.cores tasks.now.ordered.set.tasks.now tasks.now.ordered.order.now tasks.now.lengths.now bounds.now)
-        ((length tasks.now.ordered.set.tasks.now ≤ length bounds.now) × ResponseTimeAnalysis tasks.now.ordered.set.cores tasks.now.ordered.set.tasks.now tasks.now.ordered.order.now tasks.now.lengths.now bounds.now → ⊥) }
-    ensures general { (m : ℕ) (ts : List Row) (q lens bs : List ℕ) → Equivalent (Solution full_sum m ts q lens bs) (ResponseTimeAnalysis m ts q lens bs) }
-{
-    solves
+    is_solution(&Full, tasks, bounds)
 }
 
 // Response time analysis of bounds by task number, with limited carry-in.
 pub fn limited_response_time_analysis(tasks: &Arranged, bounds: &[u32]) -> bool
-    ensures decides { MatchBool result ((length tasks.now.ordered.set.tasks.now ≤ length bounds.now) × LimitedResponseTimeAnalysis tasks.now.ordered.set.cores tasks.now.ordered.set.tasks.now tasks.now.ordered.order.now tasks.now.lengths.now bounds.now)
-        ((length tasks.now.ordered.set.tasks.now ≤ length bounds.now) × LimitedResponseTimeAnalysis tasks.now.ordered.set.cores tasks.now.ordered.set.tasks.now tasks.now.ordered.order.now tasks.now.lengths.now bounds.now → ⊥) }
+    ensures decides { Tells result ((length tasks.now.ordered.set.tasks.now ≤ length bounds.now) × LimitedResponseTimeAnalysis tasks.now.ordered.set.cores tasks.now.ordered.set.tasks.now tasks.now.ordered.order.now tasks.now.lengths.now bounds.now) }
     ensures general { (m : ℕ) (ts : List Row) (q lens bs : List ℕ) → Equivalent (Solution limited_sum m ts q lens bs) (LimitedResponseTimeAnalysis m ts q lens bs) }
 {
-    as_limited_response_time_analysis(tasks, bounds, is_solution(&Limited, tasks, bounds))
-}
-
-fn as_limited_response_time_analysis(tasks: &Arranged, bounds: &[u32], solves: bool) -> bool
-    requires { MatchBool solves ((length tasks.now.ordered.set.tasks.now ≤ length bounds.now) × Solution limited_sum tasks.now.ordered.set.cores tasks.now.ordered.set.tasks.now tasks.now.ordered.order.now tasks.now.lengths.now bounds.now) ((length tasks.now.ordered.set.tasks.now ≤ length bounds.now) × Solution limited_sum tasks.now.ordered.set.cores tasks.now.ordered.set.tasks.now tasks.now.ordered.order.now tasks.now.lengths.now bounds.now → ⊥) }
-    ensures decides { MatchBool result ((length tasks.now.ordered.set.tasks.now ≤ length bounds.now) × LimitedResponseTimeAnalysis tasks.now.ordered.set.cores tasks.now.ordered.set.tasks.now tasks.now.ordered.order.now tasks.now.lengths.now bounds.now)
-        ((length tasks.now.ordered.set.tasks.now ≤ length bounds.now) × LimitedResponseTimeAnalysis tasks.now.ordered.set.cores tasks.now.ordered.set.tasks.now tasks.now.ordered.order.now tasks.now.lengths.now bounds.now → ⊥) }
-    ensures general { (m : ℕ) (ts : List Row) (q lens bs : List ℕ) → Equivalent (Solution limited_sum m ts q lens bs) (LimitedResponseTimeAnalysis m ts q lens bs) }
-{
-    solves
+    is_solution(&Limited, tasks, bounds)
 }

@@ -1,8 +1,9 @@
-ghost use Rattle.std.specs.Prelude.{◌≡◌, ℕ, ◌≤◌, length, MatchOption};
-ghost use Rattle.analysis.specs.Rivals.{TasksWithinLimits, cost_of};
+ghost use Rattle.std.specs.Prelude.{◌≡◌, ℕ, ◌<◌, ◌≤◌, length, MatchOption, slice_index};
+ghost use Rattle.analysis.specs.Rivals.{TasksWithinLimits, cost_of, under};
 ghost use Rattle.analysis.specs.Plans.{Named, IsOrder, IsChoice};
 
 use crate::checks::{is_choice, is_order, is_task_set};
+use crate::level::Level;
 use crate::task::Task;
 
 const MOST_TO_PLAN: usize = 8;
@@ -88,6 +89,22 @@ pub struct Arranged<'a> {
     pub lengths: &'a [u32],
     ghost room: { length ordered.set.tasks.now ≤ length lengths.now },
     ghost choice: { IsChoice (cost_of ordered.set.tasks.now) (length ordered.set.tasks.now) lengths.now },
+}
+
+impl<'a> Arranged<'a> {
+    // What stands below the task at a place.
+    pub(crate) fn level(&self, p: usize) -> Level<'a>
+        requires { p < length self.now.ordered.order.now }
+        ensures set { result.set ≡ self.now.ordered.set }
+        ensures lengths { result.lengths.now ≡ self.now.lengths.now }
+        ensures low { result.low.now ≡ under self.now.ordered.order.now (slice_index self.now.ordered.order.now p) }
+    {
+        Level {
+            set: self.ordered.set,
+            lengths: self.lengths,
+            low: &self.ordered.order[0..p],
+        }
+    }
 }
 
 // At most eight tasks: few enough to search all orders of them.
