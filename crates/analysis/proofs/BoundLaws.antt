@@ -65,9 +65,6 @@ module _ (sum : Query → ℕ) (laws : Lawful sum) (m : ℕ) (some : 1 ≤ m) (m
       (valid_at k here xs wx v a (omega arith)) (valid_at k here bs wb w (omega arith) b) (record { cores = refl; demand = refl; region = refl; window = omega arith; upper = hu; lower = hl }) in
       omega (arith, div_grows (sum x) (sum y) m some h)
 
-  pub bound_floor : (k : ℕ) (bs : List ℕ) (v : ℕ) → cost_of ts k ≤ bound_of sum m ts q lens k bs v
-  bound_floor k bs v = omega arith
-
   -- the two ways to say that bounds solve the equations
   pub solution_keeps : (bs : List ℕ) → Solution sum m ts q lens bs → (k : ℕ) → k < length ts → bound_of sum m ts q lens k bs (get_or bs k 0) ≡ get_or bs k 0
   solution_keeps bs s k l =

@@ -1,5 +1,5 @@
 -- What holds at each place of an order holds for each task.
-use Rattle.std.proofs.Common.{◌≡◌, ℕ, ◌<◌, ◌≤◌, List, length, get_or, take, Some, None, Option, sym, ap, ◌∙◌, subst, subst₂, MatchOption}
+use Rattle.std.proofs.Common.{◌≡◌, ℕ, ◌<◌, ◌≤◌, List, length, get_or, take, sym, ap, ◌∙◌, subst, subst₂}
 use Rattle.analysis.specs.Rivals.{under}
 use Rattle.analysis.specs.Plans.{IsOrder, Test, ChoicePasses, LeastChoice, NoChoicePasses, FirstOrder}
 use Rattle.analysis.specs.Steps.{PlacesPass, LeastByPlace, InfeasibleByPlace, FirstByPlace}

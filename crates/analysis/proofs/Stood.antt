@@ -1,12 +1,10 @@
 -- What holds of a task between its rivals holds of what they are made of.
-use Rattle.std.proofs.Common.{◌≡◌, ℕ, ◌-◌, ◌<◌, Bool, true, false, eqb, List, length, get_or, take, MatchBool, sym, refl, ◌∙◌, subst, arith}
-use Rattle.std.proofs.lemmas.Bool.{eqb-true, eqb-false}
+use Rattle.std.proofs.Common.{◌≡◌, ℕ, ◌-◌, ◌<◌, List, length, get_or, take, sym, refl, ◌∙◌, subst}
 use Rattle.interference.specs.declared.rival.Rival.{Rival}
 use Rattle.analysis.specs.declared.task.Task.{Task}
-use Rattle.analysis.specs.Rivals.{TasksWithinLimits, finish_limits, cost_of, limit_of, under}
+use Rattle.analysis.specs.Rivals.{under}
 use Rattle.analysis.specs.Plans.{Named}
-use Rattle.analysis.specs.Bounds.{BoundsWithin}
-use Rattle.analysis.proofs.RivalLaws.{limit_at, part}
+use Rattle.analysis.proofs.RivalLaws.{part}
 use Rattle.analysis.proofs.Among.{under_at}
 
 pub carried_over : (P : ℕ → Task → List Rival → List Rival → Type 0) {m m' : ℕ} {t t' : Task} {us us' ls ls' : List Rival}
