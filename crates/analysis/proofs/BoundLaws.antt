@@ -20,7 +20,7 @@ use Rattle.analysis.proofs.Picked.{each_picked}
 use Rattle.analysis.proofs.RivalLaws.{limits_late, Late, question_valid, div_grows}
 
 -- within the finish_limits
-pub within_late : (ts : List Task) → TasksWithinLimits ts → (bs : List ℕ) → BoundsWithin (length ts) (cost_of ts) (limit_of ts) bs → Late ts bs
+within_late : (ts : List Task) → TasksWithinLimits ts → (bs : List ℕ) → BoundsWithin (length ts) (cost_of ts) (limit_of ts) bs → Late ts bs
 within_late ts s bs w j l = let h = s j l in let b = w j l in (omega arith, omega arith)
 
 -- so are the latest finishes of a level
@@ -28,13 +28,13 @@ pub fit_late : (ts : List Task) → TasksWithinLimits ts → (late : Finishes) �
 fit_late ts s Limits f = limits_late ts s
 fit_late ts s (Bounds bs) f = within_late ts s bs.now f.1
 
-pub valid_bound : (m c f d b : ℕ) (us ls : List Rival) → 1 ≤ m → m ≤ 16 → 1 ≤ f → f ≤ c → c ≤ b → b ≤ d → d ≤ 65535 → length us + length ls ≤ 31 → RivalsWithinLimits us → RivalsWithinLimits ls
+valid_bound : (m c f d b : ℕ) (us ls : List Rival) → 1 ≤ m → m ≤ 16 → 1 ≤ f → f ≤ c → c ≤ b → b ≤ d → d ≤ 65535 → length us + length ls ≤ 31 → RivalsWithinLimits us → RivalsWithinLimits ls
     → Valid (posed m (b - (f - 1)) (c - (f - 1)) f us ls)
 valid_bound m c f d b us ls a h i j k l o few hu hl =
     record { times = (omega arith, omega arith, omega arith, omega arith, omega arith); sizes = (a, h, few); uppers = hu; lowers = hl }
 
 -- one task's own equation rises with its bound
-pub next_bound_widens : (sum : Query → ℕ) → Lawful sum → (m c f : ℕ) (us ls : List Rival) → 1 ≤ m → (v w : ℕ) → v ≤ w
+next_bound_widens : (sum : Query → ℕ) → Lawful sum → (m c f : ℕ) (us ls : List Rival) → 1 ≤ m → (v w : ℕ) → v ≤ w
     → Valid (posed m (v - (f - 1)) (c - (f - 1)) f us ls) → Valid (posed m (w - (f - 1)) (c - (f - 1)) f us ls) → next_bound sum m c f us ls v ≤ next_bound sum m c f us ls w
 next_bound_widens sum laws m c f us ls pos v w le a b =
     let h = laws.window_grows (posed m (v - (f - 1)) (c - (f - 1)) f us ls) (w - (f - 1)) a b (omega arith) in
@@ -64,9 +64,6 @@ module _ (sum : Query → ℕ) (laws : Lawful sum) (m : ℕ) (some : 1 ≤ m) (m
       let h : sum x ≤ sum y = grows_together sum laws x y
       (valid_at k here xs wx v a (omega arith)) (valid_at k here bs wb w (omega arith) b) (record { cores = refl; demand = refl; region = refl; window = omega arith; upper = hu; lower = hl }) in
       omega (arith, div_grows (sum x) (sum y) m some h)
-
-  pub bound_floor : (k : ℕ) (bs : List ℕ) (v : ℕ) → cost_of ts k ≤ bound_of sum m ts q lens k bs v
-  bound_floor k bs v = omega arith
 
   -- the two ways to say that bounds solve the equations
   pub solution_keeps : (bs : List ℕ) → Solution sum m ts q lens bs → (k : ℕ) → k < length ts → bound_of sum m ts q lens k bs (get_or bs k 0) ≡ get_or bs k 0

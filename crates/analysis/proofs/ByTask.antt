@@ -1,5 +1,5 @@
 -- What holds at each place of an order holds for each task.
-use Rattle.std.proofs.Common.{◌≡◌, ℕ, ◌<◌, ◌≤◌, List, length, get_or, take, Some, None, Option, sym, ap, ◌∙◌, subst, subst₂, MatchOption}
+use Rattle.std.proofs.Common.{◌≡◌, ℕ, ◌<◌, ◌≤◌, List, length, get_or, take, sym, ap, ◌∙◌, subst, subst₂}
 use Rattle.analysis.specs.Rivals.{under}
 use Rattle.analysis.specs.Plans.{IsOrder, Test, ChoicePasses, LeastChoice, NoChoicePasses, FirstOrder}
 use Rattle.analysis.specs.Steps.{PlacesPass, LeastByPlace, InfeasibleByPlace, FirstByPlace}
@@ -9,12 +9,12 @@ module _ (size : ℕ → ℕ) (n : ℕ) (ok : Test) (q : List ℕ) (order : IsOr
   lower : (p : ℕ) → p < length q → under q (get_or q p 0) ≡ take p q
   lower p l = under_at q p l (order.1 p l).1
 
-  pub pass_all : (lens : List ℕ) → PlacesPass ok q lens → ChoicePasses ok n q lens
+  pass_all : (lens : List ℕ) → PlacesPass ok q lens → ChoicePasses ok n q lens
   pass_all lens h k l =
       let e = everyone n q order k l in
       subst₂ (λ low j. ok low j lens (get_or lens j 0)) (sym (lower e.0 e.1) ∙ ap (under q) e.2) e.2 (h e.0 e.1)
 
-  pub all_pass : (lens : List ℕ) → ChoicePasses ok n q lens → PlacesPass ok q lens
+  all_pass : (lens : List ℕ) → ChoicePasses ok n q lens → PlacesPass ok q lens
   all_pass lens h p l = subst (λ low. ok low (get_or q p 0) lens (get_or lens (get_or q p 0) 0)) (lower p l) (h (get_or q p 0) (order.1 p l).0)
 
   pub infeasible_all : InfeasibleByPlace size n ok q → NoChoicePasses size n ok q
@@ -35,13 +35,3 @@ first_all size n ok q lens h = record {
   lengths = least_all size n ok q h.order lens h.lengths;
   first = λ o r b. infeasible_all size n ok o r (h.first o r b);
 }
-
-cases_map : {X : Type 0} (r : Option X) (P P' : Type 0) (Q Q' : X → Type 0) → (P → P') → ((x : X) → Q x → Q' x) → MatchOption r P Q → MatchOption r P' Q'
-cases_map None P P' Q Q' f g h = f h
-cases_map (Some x) P P' Q Q' f g h = g x h
-
-pub answers_all : (size : ℕ → ℕ) (n : ℕ) (ok : Test) (q : List ℕ) → IsOrder n q → (r : Option (List ℕ)) → MatchOption r (InfeasibleByPlace size n ok q) (λ lens. LeastByPlace size n ok q lens)
-    → MatchOption r (NoChoicePasses size n ok q) (λ lens. LeastChoice size n ok q lens)
-answers_all size n ok q order r h =
-    cases_map r (InfeasibleByPlace size n ok q) (NoChoicePasses size n ok q) (λ lens. LeastByPlace size n ok q lens) (λ lens. LeastChoice size n ok q lens)
-    (infeasible_all size n ok q order) (least_all size n ok q order) h

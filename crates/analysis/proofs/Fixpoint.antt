@@ -29,14 +29,6 @@ set_rises bs k w room le j =
 module _ (n : ℕ) (low high : ℕ → ℕ) (g : ℕ → List ℕ → ℕ → ℕ)
     (up : (k : ℕ) (xs bs : List ℕ) → k < n → BoundsWithin n low high xs → BoundsWithin n low high bs → ((j : ℕ) → j < n → (j ≡ k → ⊥) → get_or xs j 0 ≤ get_or bs j 0)
     → (v w : ℕ) → low k ≤ v → v ≤ w → w ≤ high k → g k xs v ≤ g k bs w) where
-  pub rising_start : (bs : List ℕ) → ((k : ℕ) → k < n → get_or bs k 0 ≡ low k) → ((k : ℕ) → k < n → low k ≤ high k) → ((k : ℕ) → k < n → low k ≤ g k bs (low k)) → Rising n low high g bs
-  rising_start bs e h f = record {
-    within = λ k l. let s = e k l in let t = h k l in (omega arith, omega arith);
-    rises = λ k l. subst (λ v. v ≤ g k bs v) (sym (e k l)) (f k l);
-    lowest = λ k l v a b c. let s = e k l in omega arith;
-    below = λ o w s k l. let t = e k l in let u = w k l in omega arith;
-  }
-
   module _ (bs : List ℕ) (r : Rising n low high g bs) (k : ℕ) (here : k < n) where
     below_own : (o : List ℕ) → BoundsWithin n low high o → ((j : ℕ) → j < n → g j o (get_or o j 0) ≤ get_or o j 0) → g k bs (get_or o k 0) ≤ get_or o k 0
     below_own o w s =

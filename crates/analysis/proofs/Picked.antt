@@ -1,19 +1,13 @@
 -- Lists of what is picked by number.
-use Rattle.std.proofs.Common.{◌≡◌, ℕ, zero, suc, ◌+◌, ◌<◌, ◌≤◌, Bool, true, false, cond, ◌⊎◌, List, [], ◌∷◌, ◌++◌, length, take, set, sym, refl, ap, ◌∙◌, subst, inl, inr, ⊎_elim, add-one, arith}
+use Rattle.std.proofs.Common.{◌≡◌, ℕ, zero, suc, ◌+◌, ◌<◌, ◌≤◌, Bool, true, false, cond, ◌⊎◌, List, [], ◌∷◌, ◌++◌, length, sym, refl, ap, ◌∙◌, subst, inl, inr, ⊎_elim, arith}
 use Rattle.std.specs.List.{AllZip, AllByRecursion}
-use Rattle.std.proofs.lemmas.List.{take_more_set, length_push, append-nil}
+use Rattle.std.proofs.lemmas.List.{length_push, append-nil}
 use Rattle.std.proofs.lemmas.List.Elements.{AllZip-push}
 use Rattle.std.proofs.ByRecursion.{All-push}
 use Rattle.std.proofs.lemmas.Bool.{cond-true, cond-false, cases_Bool, cases_order}
 use Rattle.analysis.specs.Rivals.{picked}
 
 module _ {X : Type 0} (p : ℕ → Bool) (g : ℕ → X) where
-  pub picked_yes : (n : ℕ) → p n ≡ true → picked p g (n + 1) ≡ picked p g n ++ g n ∷ []
-  picked_yes n h = rw add-one (ap (λ l. picked p g n ++ l) (cond-true (p n) (g n ∷ []) [] h))
-
-  pub picked_no : (n : ℕ) → p n ≡ false → picked p g (n + 1) ≡ picked p g n
-  picked_no n h = rw add-one (ap (λ l. picked p g n ++ l) (cond-false (p n) (g n ∷ []) [] h) ∙ append-nil (picked p g n))
-
   pub all_picked : (P : X → Type 0) (n : ℕ) → ((j : ℕ) → j < n → p j ≡ true → P (g j)) → AllByRecursion P (picked p g n)
   all_picked P zero h = tt
   all_picked P (suc n) h =
@@ -22,14 +16,6 @@ module _ {X : Type 0} (p : ℕ → Bool) (g : ℕ → X) where
       (λ e. subst (AllByRecursion P) (sym (ap (λ l. picked p g n ++ l) (cond-true (p n) (g n ∷ []) [] e))) (All-push P (picked p g n) (g n) r (h n (omega arith) e)))
       (λ e. subst (AllByRecursion P) (sym (ap (λ l. picked p g n ++ l) (cond-false (p n) (g n ∷ []) [] e) ∙ append-nil (picked p g n))) r)
       (cases_Bool (p n))
-
-  -- a buffer that is filled from the front
-  pub filled_yes : (out : List X) (used j : ℕ) → used < length out → p j ≡ true → take used out ≡ picked p g j
-      → take (used + 1) (set out used (g j)) ≡ picked p g (j + 1)
-  filled_yes out used j l e h = take_more_set out used (g j) l ∙ ap (λ x. x ++ g j ∷ []) h ∙ sym (picked_yes j e)
-
-  pub filled_no : (out : List X) (used j : ℕ) → p j ≡ false → take used out ≡ picked p g j → take used out ≡ picked p g (j + 1)
-  filled_no out used j e h = h ∙ sym (picked_no j e)
 
 each_picked_more : {X : Type 0} (R : X → X → Type 0) (b : Bool) (xs ys : List X) (x y : X) → AllZip R xs ys → (b ≡ true → R x y)
     → AllZip R (xs ++ cond b (x ∷ []) []) (ys ++ cond b (y ∷ []) [])

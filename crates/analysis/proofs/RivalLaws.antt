@@ -29,10 +29,10 @@ limit_at ts j l = get_or-map (λ t. t.deadline) ts j no_task 0 l
 pub limits_late : (ts : List Task) → TasksWithinLimits ts → Late ts (finish_limits ts)
 limits_late ts s j l = let e = limit_at ts j l in let h = s j l in (omega arith, omega arith)
 
-pub self_above : (low : List ℕ) (k : ℕ) → above low k k ≡ false
+self_above : (low : List ℕ) (k : ℕ) → above low k k ≡ false
 self_above low k = and_left (not (eqb k k)) (not (among low k)) (not_from_true (eqb k k) (eq-eqb k k refl))
 
-pub self_below : (low : List ℕ) (k : ℕ) → below low k k ≡ false
+self_below : (low : List ℕ) (k : ℕ) → below low k k ≡ false
 self_below low k = and_left (not (eqb k k)) (among low k) (not_from_true (eqb k k) (eq-eqb k k refl))
 
 apart : (low : List ℕ) (k j : ℕ) → above low k j ≡ true → below low k j ≡ true → ⊥

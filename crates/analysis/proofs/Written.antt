@@ -12,6 +12,7 @@ use Rattle.analysis.specs.declared.task.Task.{Task}
 use Rattle.analysis.specs.Rivals.{no_task, cost_of, limit_of, finish_limits, under, picked, rival_of, upper_rival, lower_rival, uppers, lowers}
 use Rattle.analysis.specs.Passing.{Passes}
 use Rattle.analysis.specs.Bounds.{Solution}
+use Rattle.analysis.specs.Words.{Tells}
 use Rattle.analysis.specs.FourTests.{higher, lower, over, full_interference, limited_interference, before_region, start_limit, DeadlineAnalysis, LimitedDeadlineAnalysis, ResponseTimeAnalysis, LimitedResponseTimeAnalysis, ResponseTime, Equivalent}
 use Rattle.analysis.proofs.RivalLaws.{limit_at}
 
@@ -61,7 +62,7 @@ module _ (m : ℕ) (ts : List Task) (q lens : List ℕ) (k : ℕ) (late : List �
   lowers_are : lowers ts late lens (under q k) k ≡ picked (lower q k) (lower_by ts lens by) (length ts)
   lowers_are = picked_same (lower q k) (lower_rival ts late lens) (lower_by ts lens by) (length ts) (λ j h. ap (rival_of (get_or ts j no_task) (get_or lens j 0 - 1)) (same j h))
 
-  pub full_written : full_sum (posed m l (before_region ts lens k) (get_or lens k 0) (uppers ts late (under q k) k) (lowers ts late lens (under q k) k))
+  full_written : full_sum (posed m l (before_region ts lens k) (get_or lens k 0) (uppers ts late (under q k) k) (lowers ts late lens (under q k) k))
       ≡ full_interference ts q lens k by l (before_region ts lens k)
   full_written =
       let x = posed m l (before_region ts lens k) (get_or lens k 0) [] [] in
@@ -73,7 +74,7 @@ module _ (m : ℕ) (ts : List Task) (q lens : List ℕ) (k : ℕ) (late : List �
         sum_picked (carry_in_share x) (lower q k) (lower_by ts lens by) (length ts),
       )
 
-  pub limited_written : limited_sum (posed m l (before_region ts lens k) (get_or lens k 0) (uppers ts late (under q k) k) (lowers ts late lens (under q k) k))
+  limited_written : limited_sum (posed m l (before_region ts lens k) (get_or lens k 0) (uppers ts late (under q k) k) (lowers ts late lens (under q k) k))
       ≡ limited_interference m ts q lens k by l (before_region ts lens k)
   limited_written =
       let x = posed m l (before_region ts lens k) (get_or lens k 0) [] [] in
@@ -88,7 +89,7 @@ module _ (m : ℕ) (ts : List Task) (q lens : List ℕ) (k : ℕ) (late : List �
       )
 
 -- a decision of one is a decision of the other, beside any other fact
-pub when_same : (A B C : Type 0) (b : Bool) → Equivalent B C → MatchBool b (A × B) (A × B → ⊥) → MatchBool b (A × C) (A × C → ⊥)
+when_same : (A B C : Type 0) (b : Bool) → Equivalent B C → MatchBool b (A × B) (A × B → ⊥) → MatchBool b (A × C) (A × C → ⊥)
 when_same A B C true e h = (h.0, e.0 h.1)
 when_same A B C false e h = λ x. h (x.0, e.1 x.1)
 
@@ -127,3 +128,16 @@ pub limited_response_written : (m : ℕ) (ts : List Task) (q lens bounds : List 
 limited_response_written m ts q lens bounds =
     solution_written limited_sum m ts q lens bounds (λ k late r. limited_interference m ts q lens k late r (before_region ts lens k))
     (λ k r. limited_written m ts q lens k bounds (λ j. get_or bounds j 0) (λ j h. refl) r)
+
+-- how a decision of one is read as a decision of the other
+pub deadline_tells : (m : ℕ) (ts : List Task) (q lens : List ℕ) (k : ℕ) (b : Bool) → Tells b ((k < length ts) × Passes full_sum m ts q lens k) → Tells b ((k < length ts) × DeadlineAnalysis m ts q lens k)
+deadline_tells m ts q lens k b h = when_same _ _ _ b (deadline_written m ts q lens k) h
+
+pub limited_deadline_tells : (m : ℕ) (ts : List Task) (q lens : List ℕ) (k : ℕ) (b : Bool) → Tells b ((k < length ts) × Passes limited_sum m ts q lens k) → Tells b ((k < length ts) × LimitedDeadlineAnalysis m ts q lens k)
+limited_deadline_tells m ts q lens k b h = when_same _ _ _ b (limited_deadline_written m ts q lens k) h
+
+pub response_tells : (m : ℕ) (ts : List Task) (q lens bounds : List ℕ) (b : Bool) → Tells b ((length ts ≤ length bounds) × Solution full_sum m ts q lens bounds) → Tells b ((length ts ≤ length bounds) × ResponseTimeAnalysis m ts q lens bounds)
+response_tells m ts q lens bounds b h = when_same _ _ _ b (response_written m ts q lens bounds) h
+
+pub limited_response_tells : (m : ℕ) (ts : List Task) (q lens bounds : List ℕ) (b : Bool) → Tells b ((length ts ≤ length bounds) × Solution limited_sum m ts q lens bounds) → Tells b ((length ts ≤ length bounds) × LimitedResponseTimeAnalysis m ts q lens bounds)
+limited_response_tells m ts q lens bounds b h = when_same _ _ _ b (limited_response_written m ts q lens bounds) h

@@ -17,6 +17,10 @@ IsOrder n q = (length q ≡ n) × Named n q
 abbrev pub IsChoice : (ℕ → ℕ) → ℕ → List ℕ → Type 0
 IsChoice size n lens = (k : ℕ) → k < n → (1 ≤ slice_index lens k) × (slice_index lens k ≤ size k)
 
+-- lengths are a choice for these tasks
+abbrev pub Suits : List Task → List ℕ → Type 0
+Suits ts lens = (length ts ≤ length lens) × IsChoice (cost_of ts) (length ts) lens
+
 -- a test of task k with a length of its own over the tasks of a list with their lengths
 abbrev pub Test : Type 1
 Test = List ℕ → ℕ → List ℕ → ℕ → Type 0

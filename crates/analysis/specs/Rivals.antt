@@ -22,6 +22,10 @@ TaskWithinLimits t = (1 ≤ t.cost) × (t.cost ≤ t.deadline) × (t.deadline �
 abbrev pub TasksWithinLimits : List Task → Type 0
 TasksWithinLimits ts = (k : ℕ) → k < length ts → TaskWithinLimits (slice_index_or ts k no_task)
 
+-- these tasks on so many cores make a set
+abbrev pub MakesSet : ℕ → List Task → Type 0
+MakesSet m ts = (1 ≤ m) × (m ≤ 16) × (length ts ≤ 32) × TasksWithinLimits ts
+
 -- when a job must be finished at the latest, after its release
 abbrev pub finish_limit : Task → ℕ
 finish_limit t = t.deadline

@@ -6,11 +6,12 @@ use Rattle.analysis.specs.declared.task_set.Arranged.{Arranged}
 use Rattle.analysis.specs.declared.task_set.Ordered.{Ordered}
 use Rattle.analysis.specs.declared.task_set.TaskSet.{TaskSet}
 use Rattle.analysis.specs.declared.place.Place.{Place}
+use Rattle.analysis.specs.declared.level.Level.{Level}
 use Rattle.analysis.specs.Rivals.{cost_of, limit_of}
 use Rattle.analysis.specs.Passing.{Meets, Passes, PassesOver}
 use Rattle.analysis.specs.Plans.{Test, LeastLengths, NoLengths}
 use Rattle.analysis.specs.Bounds.{next_bound, bound_of, BoundsWithin, Solution, LeastSolution, NoSolution}
-use Rattle.analysis.specs.Steps.{Rising, Overrun, total, Padded}
+use Rattle.analysis.specs.Steps.{FirstIs, Stuck, Rising, Overrun, total, Padded}
 
 -- the answer is true where P holds, and false where it does not
 abbrev pub Tells : Bool → Type 0 → Type 0
@@ -34,6 +35,16 @@ test_of sum s = PassesOver sum s.cores s.tasks.now
 abbrev pub WithinLimits : TaskSet → List ℕ → Type 0
 WithinLimits s bs = BoundsWithin (length s.tasks.now) (cost_of s.tasks.now) (limit_of s.tasks.now) bs
 
+-- on a level: task k passes with a region of length f; f is its first that passes; it has none
+abbrev pub PassesAt : (Query → ℕ) → Level → ℕ → ℕ → Type 0
+PassesAt sum l k = test_of sum l.set l.low.now k l.lengths.now
+
+abbrev pub FirstAt : (Query → ℕ) → Level → ℕ → ℕ → Type 0
+FirstAt sum l k f = FirstIs (PassesAt sum l k) (cost_of l.set.tasks.now k) f
+
+abbrev pub StuckAt : (Query → ℕ) → Level → ℕ → Type 0
+StuckAt sum l k = Stuck (cost_of l.set.tasks.now) (test_of sum l.set) l.low.now l.lengths.now k
+
 -- of tasks in an order
 abbrev pub OrderedLengths : (Query → ℕ) → Ordered → List ℕ → Type 0
 OrderedLengths sum o lens = LeastLengths sum o.set.cores o.set.tasks.now o.order.now lens × Padded (length o.set.tasks.now) 1 lens
@@ -42,8 +53,11 @@ abbrev pub NoOrderedLengths : (Query → ℕ) → Ordered → Type 0
 NoOrderedLengths sum o = NoLengths sum o.set.cores o.set.tasks.now o.order.now
 
 -- of tasks in an order with their lengths
+abbrev pub In : {X : Type 0} → (ℕ → List Task → List ℕ → List ℕ → X → Type 0) → Arranged → X → Type 0
+In P a x = P a.ordered.set.cores a.ordered.set.tasks.now a.ordered.order.now a.lengths.now x
+
 abbrev pub PassesIn : (Query → ℕ) → Arranged → ℕ → Type 0
-PassesIn sum a k = Passes sum a.ordered.set.cores a.ordered.set.tasks.now a.ordered.order.now a.lengths.now k
+PassesIn sum a k = In (Passes sum) a k
 
 abbrev pub bound_in : (Query → ℕ) → Arranged → ℕ → List ℕ → ℕ → ℕ
 bound_in sum a = bound_of sum a.ordered.set.cores a.ordered.set.tasks.now a.ordered.order.now a.lengths.now
@@ -53,10 +67,10 @@ abbrev pub KeepsIn : (Query → ℕ) → Arranged → List ℕ → ℕ → Type 
 KeepsIn sum a bs k = bound_in sum a k bs (slice_index bs k) ≡ slice_index bs k
 
 abbrev pub SolutionIn : (Query → ℕ) → Arranged → List ℕ → Type 0
-SolutionIn sum a bs = Solution sum a.ordered.set.cores a.ordered.set.tasks.now a.ordered.order.now a.lengths.now bs
+SolutionIn sum a bs = In (Solution sum) a bs
 
 abbrev pub LeastSolutionIn : (Query → ℕ) → Arranged → List ℕ → Type 0
-LeastSolutionIn sum a bs = LeastSolution sum a.ordered.set.cores a.ordered.set.tasks.now a.ordered.order.now a.lengths.now bs
+LeastSolutionIn sum a bs = In (LeastSolution sum) a bs
 
 abbrev pub NoSolutionIn : (Query → ℕ) → Arranged → Type 0
 NoSolutionIn sum a = NoSolution sum a.ordered.set.cores a.ordered.set.tasks.now a.ordered.order.now a.lengths.now

@@ -1,6 +1,6 @@
-ghost use Rattle.std.specs.Prelude.{ℕ, ◌≤◌, length};
-ghost use Rattle.analysis.specs.Rivals.{TaskWithinLimits, TasksWithinLimits, cost_of};
-ghost use Rattle.analysis.specs.Plans.{IsOrder, IsChoice};
+ghost use Rattle.std.specs.Prelude.{ℕ};
+ghost use Rattle.analysis.specs.Rivals.{TaskWithinLimits, MakesSet};
+ghost use Rattle.analysis.specs.Plans.{IsOrder, Suits};
 ghost use Rattle.analysis.specs.Words.{Tells};
 
 use crate::rivals::stands;
@@ -14,7 +14,7 @@ const MOST_TICKS: u32 = 65_535;
 
 // Whether these tasks on so many cores make a `TaskSet`.
 pub fn is_task_set(cores: u32, tasks: &[Task]) -> bool
-    ensures { Tells result ((1 ≤ cores) × (cores ≤ 16) × (length tasks.now ≤ 32) × TasksWithinLimits tasks.now) }
+    ensures { Tells result (MakesSet cores tasks.now) }
 {
     if cores < 1 || cores > MOST_CORES || tasks.len() > MOST_TASKS {
         return false;
@@ -51,7 +51,7 @@ pub fn is_order(count: usize, order: &[usize]) -> bool
 
 // Whether a list gives each task a length from 1 to its cost.
 pub fn is_choice(tasks: &[Task], lengths: &[u32]) -> bool
-    ensures { Tells result ((length tasks.now ≤ length lengths.now) × IsChoice (cost_of tasks.now) (length tasks.now) lengths.now) }
+    ensures { Tells result (Suits tasks.now lengths.now) }
 {
     tasks.len() <= lengths.len()
         && tasks

@@ -4,7 +4,7 @@ ghost use Rattle.analysis.specs.declared.task.Task.{Task as Row};
 ghost use Rattle.analysis.specs.Passing.{Passes};
 ghost use Rattle.analysis.specs.Bounds.{Solution};
 ghost use Rattle.analysis.specs.FourTests.{DeadlineAnalysis, LimitedDeadlineAnalysis, ResponseTimeAnalysis, LimitedResponseTimeAnalysis, Equivalent};
-ghost use Rattle.analysis.specs.Words.{Tells};
+ghost use Rattle.analysis.specs.Words.{Tells, In};
 
 use crate::task_set::Arranged;
 use crate::verdict::{is_solution, task_passes};
@@ -12,32 +12,36 @@ use interference::full::Full;
 use interference::limited::Limited;
 
 // Deadline analysis of one task.
+#[tactic(auto, using(crate::proofs::Written::deadline_tells, crate::proofs::Written::deadline_written))]
 pub fn deadline_analysis(tasks: &Arranged, k: usize) -> bool
-    ensures decides { Tells result ((k < length tasks.now.ordered.set.tasks.now) × DeadlineAnalysis tasks.now.ordered.set.cores tasks.now.ordered.set.tasks.now tasks.now.ordered.order.now tasks.now.lengths.now k) }
+    ensures decides { Tells result ((k < length tasks.now.ordered.set.tasks.now) × In DeadlineAnalysis tasks.now k) }
     ensures general { (m : ℕ) (ts : List Row) (q lens : List ℕ) (j : ℕ) → Equivalent (Passes full_sum m ts q lens j) (DeadlineAnalysis m ts q lens j) }
 {
     task_passes(&Full, tasks, k)
 }
 
 // Deadline analysis of one task with limited carry-in.
+#[tactic(auto, using(crate::proofs::Written::limited_deadline_tells, crate::proofs::Written::limited_deadline_written))]
 pub fn limited_deadline_analysis(tasks: &Arranged, k: usize) -> bool
-    ensures decides { Tells result ((k < length tasks.now.ordered.set.tasks.now) × LimitedDeadlineAnalysis tasks.now.ordered.set.cores tasks.now.ordered.set.tasks.now tasks.now.ordered.order.now tasks.now.lengths.now k) }
+    ensures decides { Tells result ((k < length tasks.now.ordered.set.tasks.now) × In LimitedDeadlineAnalysis tasks.now k) }
     ensures general { (m : ℕ) (ts : List Row) (q lens : List ℕ) (j : ℕ) → Equivalent (Passes limited_sum m ts q lens j) (LimitedDeadlineAnalysis m ts q lens j) }
 {
     task_passes(&Limited, tasks, k)
 }
 
 // Response time analysis of bounds by task number.
+#[tactic(auto, using(crate::proofs::Written::response_tells))]
 pub fn response_time_analysis(tasks: &Arranged, bounds: &[u32]) -> bool
-    ensures decides { Tells result ((length tasks.now.ordered.set.tasks.now ≤ length bounds.now) × ResponseTimeAnalysis tasks.now.ordered.set.cores tasks.now.ordered.set.tasks.now tasks.now.ordered.order.now tasks.now.lengths.now bounds.now) }
+    ensures decides { Tells result ((length tasks.now.ordered.set.tasks.now ≤ length bounds.now) × In ResponseTimeAnalysis tasks.now bounds.now) }
     ensures general { (m : ℕ) (ts : List Row) (q lens bs : List ℕ) → Equivalent (Solution full_sum m ts q lens bs) (ResponseTimeAnalysis m ts q lens bs) }
 {
     is_solution(&Full, tasks, bounds)
 }
 
 // Response time analysis of bounds by task number, with limited carry-in.
+#[tactic(auto, using(crate::proofs::Written::limited_response_tells))]
 pub fn limited_response_time_analysis(tasks: &Arranged, bounds: &[u32]) -> bool
-    ensures decides { Tells result ((length tasks.now.ordered.set.tasks.now ≤ length bounds.now) × LimitedResponseTimeAnalysis tasks.now.ordered.set.cores tasks.now.ordered.set.tasks.now tasks.now.ordered.order.now tasks.now.lengths.now bounds.now) }
+    ensures decides { Tells result ((length tasks.now.ordered.set.tasks.now ≤ length bounds.now) × In LimitedResponseTimeAnalysis tasks.now bounds.now) }
     ensures general { (m : ℕ) (ts : List Row) (q lens bs : List ℕ) → Equivalent (Solution limited_sum m ts q lens bs) (LimitedResponseTimeAnalysis m ts q lens bs) }
 {
     is_solution(&Limited, tasks, bounds)

@@ -1,7 +1,7 @@
 ghost use Rattle.std.specs.Prelude.{ℕ, ◌<◌, length, MatchOption};
 ghost use Rattle.analysis.specs.Rivals.{cost_of};
 ghost use Rattle.analysis.specs.Steps.{FirstTo};
-ghost use Rattle.analysis.specs.Words.{test_of, OrderedLengths, NoOrderedLengths};
+ghost use Rattle.analysis.specs.Words.{PassesAt, OrderedLengths, NoOrderedLengths};
 
 use crate::finder::{Finder, Halving, Trying};
 use crate::level::{Finishes, Level};
@@ -32,7 +32,7 @@ pub(crate) fn length_by<R: Rule, F: Finder<R>>(
     k: usize,
 ) -> Option<u32>
     requires here { k < length level.now.set.tasks.now }
-    ensures { FirstTo (test_of (R.Rule.meaning rule.now) level.now.set level.now.low.now k level.now.lengths.now) (cost_of level.now.set.tasks.now k) result }
+    ensures { FirstTo (PassesAt (R.Rule.meaning rule.now) level.now k) (cost_of level.now.set.tasks.now k) result }
 {
     finder.first(rule, &level.place(k, &Finishes::Limits))
 }

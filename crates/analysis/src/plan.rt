@@ -1,7 +1,7 @@
 ghost use Rattle.std.specs.Prelude.{◌≡◌, ℕ, ◌<◌, ◌≤◌, false, length, take, MatchOption};
-ghost use Rattle.analysis.specs.Rivals.{cost_of, among};
-ghost use Rattle.analysis.specs.Steps.{FirstIs, Stuck, Padded};
-ghost use Rattle.analysis.specs.Words.{test_of};
+ghost use Rattle.analysis.specs.Rivals.{among};
+ghost use Rattle.analysis.specs.Steps.{Padded};
+ghost use Rattle.analysis.specs.Words.{FirstAt, StuckAt};
 ghost use Rattle.analysis.specs.Planned.{PlanOf, NoPlanOf};
 
 use crate::finder::{Finder, Halving, Trying};
@@ -43,11 +43,9 @@ fn candidate<R: Rule, F: Finder<R>>(
     level: &Level,
     from: usize,
 ) -> Option<(usize, u32)>
-    ensures { MatchOption result
-        ((y : ℕ) → from ≤ y → y < length level.now.set.tasks.now → Stuck (cost_of level.now.set.tasks.now) (test_of (R.Rule.meaning rule.now) level.now.set) level.now.low.now level.now.lengths.now y)
-        (λ p. (from ≤ p.0) × (p.0 < length level.now.set.tasks.now) × (among level.now.low.now p.0 ≡ false)
-        × FirstIs (test_of (R.Rule.meaning rule.now) level.now.set level.now.low.now p.0 level.now.lengths.now) (cost_of level.now.set.tasks.now p.0) p.1
-        × ((y : ℕ) → from ≤ y → y < p.0 → Stuck (cost_of level.now.set.tasks.now) (test_of (R.Rule.meaning rule.now) level.now.set) level.now.low.now level.now.lengths.now y)) }
+    ensures { MatchOption result ((y : ℕ) → from ≤ y → y < length level.now.set.tasks.now → StuckAt (R.Rule.meaning rule.now) level.now y)
+        (λ p. (from ≤ p.0) × (p.0 < length level.now.set.tasks.now) × (among level.now.low.now p.0 ≡ false) × FirstAt (R.Rule.meaning rule.now) level.now p.0 p.1
+        × ((y : ℕ) → from ≤ y → y < p.0 → StuckAt (R.Rule.meaning rule.now) level.now y)) }
 {
     'tasks: for x in from..level.set.tasks.len() {
         if !stands(level.low, x) {

@@ -1,6 +1,6 @@
 ghost use Rattle.std.specs.Prelude.{◌≡◌, ℕ, ◌<◌, ◌≤◌, length, MatchOption, slice_index};
-ghost use Rattle.analysis.specs.Rivals.{TasksWithinLimits, cost_of, under};
-ghost use Rattle.analysis.specs.Plans.{Named, IsOrder, IsChoice};
+ghost use Rattle.analysis.specs.Rivals.{TasksWithinLimits, MakesSet, cost_of, under};
+ghost use Rattle.analysis.specs.Plans.{Named, IsOrder, IsChoice, Suits};
 
 use crate::checks::{is_choice, is_order, is_task_set};
 use crate::level::Level;
@@ -22,7 +22,7 @@ pub struct TaskSet<'a> {
 impl<'a> TaskSet<'a> {
     // None exactly where a limit does not hold.
     pub fn check(cores: u32, tasks: &'a [Task]) -> Option<TaskSet<'a>>
-        ensures { MatchOption result ((1 ≤ cores) × (cores ≤ 16) × (length tasks.now ≤ 32) × TasksWithinLimits tasks.now → ⊥)
+        ensures { MatchOption result (MakesSet cores tasks.now → ⊥)
             (λ set. (set.cores ≡ cores) × (set.tasks.now ≡ tasks.now)) }
     {
         if is_task_set(cores, tasks) {
@@ -68,7 +68,7 @@ pub struct Ordered<'a> {
 impl<'a> Ordered<'a> {
     // None exactly where a task has no length from 1 to its cost.
     pub fn arranged(self, lengths: &'a [u32]) -> Option<Arranged<'a>>
-        ensures { MatchOption result ((length self.entry.set.tasks.now ≤ length lengths.now) × IsChoice (cost_of self.entry.set.tasks.now) (length self.entry.set.tasks.now) lengths.now → ⊥)
+        ensures { MatchOption result (Suits self.entry.set.tasks.now lengths.now → ⊥)
             (λ a. (a.ordered ≡ self.entry) × (a.lengths.now ≡ lengths.now)) }
     {
         if is_choice(self.set.tasks, lengths) {

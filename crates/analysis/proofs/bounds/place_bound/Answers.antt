@@ -1,4 +1,4 @@
-use Rattle.std.proofs.Common.{ℕ, get_or, ap, ◌∙◌}
+use Rattle.std.proofs.Common.{get_or, ap, ◌∙◌}
 use Rattle.analysis.specs.Rivals.{no_task, finish_limit, uppers, lowers}
 use Rattle.analysis.specs.Bounds.{next_bound}
 use Rattle.analysis.specs.Steps.{FirstKept}

@@ -1,30 +1,9 @@
-use Rattle.std.proofs.Common.{◌<◌, length, get_or, arith, rules}
-use Rattle.analysis.specs.Rivals.{cost_of, limit_of}
-use Rattle.analysis.specs.Steps.{total}
-use Rattle.analysis.specs.Words.{bound_in, LeastSolutionIn, Grows}
-use Rattle.analysis.proofs.Fixpoint.{rising_start, total_le, when_yes, when_no, when_none}
-use Rattle.analysis.proofs.BoundLaws.{bound_up, bound_floor, overrun_unsolved}
+use Rattle.std.proofs.Common.{length, get_or, arith}
+use Rattle.analysis.specs.Rivals.{limit_of}
+use Rattle.analysis.specs.Words.{LeastSolutionIn, Grows}
+use Rattle.analysis.proofs.Fixpoint.{total_le, when_yes, when_none}
+use Rattle.analysis.proofs.BoundLaws.{overrun_unsolved}
 use Rattle.analysis.proofs.bounds.seek_bounds.Goals as goal
-
-pub sweeping-init : goal.sweeping-init
-sweeping-init g c =
-    let a = c.args in
-    let t = a.tasks.now in
-    let s = t.ordered.set in
-    let ts = s.tasks.now in
-    let q = t.ordered.order.now in
-    let lens = t.lengths.now in
-    let sum = g.R.Rule.meaning a.rule.now in
-    let laws = g.met.R.Rule.laws a.rule.now in
-    let e = c.costs-bounds.ensures in
-    record {
-      wide = search rules;
-      rising = (
-        rising_start (length ts) (cost_of ts) (limit_of ts) (bound_in sum t) (bound_up sum laws s.cores s.some s.most ts s.limits s.few q lens t.choice) c.costs-bounds.result e.costs
-            (λ k l. let h = s.limits k l in omega arith) (λ k l. bound_floor sum laws s.cores s.some s.most ts s.limits s.few q lens t.choice k c.costs-bounds.result (cost_of ts k)),
-        e.padded,
-      );
-    }
 
 pub returns-in_err-sweep : goal.returns-in_err-sweep
 returns-in_err-sweep g c =

@@ -1,12 +1,9 @@
-use Rattle.std.proofs.Common.{◌≡◌, ℕ, ◌<◌, List, length, get_or, refl, arith, rules}
+use Rattle.std.proofs.Common.{◌≡◌, length, get_or, arith, rules}
 use Rattle.analysis.specs.Steps.{total}
 use Rattle.analysis.specs.Words.{KeepsIn, LeastSolutionIn, Grows}
-use Rattle.analysis.proofs.Fixpoint.{sweep_more, sweep_all, when_none}
+use Rattle.analysis.proofs.Fixpoint.{sweep_more, sweep_all}
 use Rattle.analysis.proofs.BoundLaws.{rising_least}
 use Rattle.analysis.proofs.bounds.sweep.Goals as goal
-
-pub places-init : goal.places-init
-places-init g c = record { wide = search rules; rising = c.requires.rising; so_far = omega arith; changed = (refl, λ i l h. absurd (omega arith)) }
 
 pub places-preserved : goal.places-preserved
 places-preserved g c =

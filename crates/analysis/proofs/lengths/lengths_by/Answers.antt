@@ -1,4 +1,4 @@
-use Rattle.std.proofs.Common.{◌+◌, ◌<◌, length, get_or, take, set, replicate, sym, refl, subst, arith, rules}
+use Rattle.std.proofs.Common.{◌+◌, ◌<◌, length, get_or, take, set, replicate, sym, refl, subst, arith}
 use Rattle.std.proofs.lemmas.List.{take_more, take_all, length-set}
 use Rattle.analysis.specs.Rivals.{cost_of}
 use Rattle.analysis.specs.Steps.{FirstIs, InfeasibleByPlace, LeastByPlace, Greedy}

@@ -1,4 +1,4 @@
-use Rattle.std.proofs.Common.{◌≡◌, ◌∙◌}
+use Rattle.std.proofs.Common.{◌∙◌}
 use Rattle.analysis.proofs.Among.{any_among}
 use Rattle.analysis.proofs.rivals.stands.Goals as goal
 

@@ -1,4 +1,4 @@
-use Rattle.std.proofs.Common.{ℕ, ◌+◌, ◌-◌, ◌/◌, arith}
+use Rattle.std.proofs.Common.{◌+◌, ◌-◌, ◌/◌, arith}
 use Rattle.analysis.proofs.Steadiness.{longer_passes}
 use Rattle.analysis.proofs.finder.HalvingFinder.first.Goals as goal
 
