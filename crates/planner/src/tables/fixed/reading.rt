@@ -25,14 +25,8 @@ impl<R: Rule> FixedTable<R> {
         ensures bounds { row_bounds result.now ≡ (holds self.now).bounds }
         ensures within { FixedWithinLimits (holds self.now) }
     {
-        self.keeps_limits();
         &self.rows.items
     }
-
-    // That every fixed table keeps its limits.
-    fn keeps_limits(&self)
-        ensures { FixedWithinLimits (holds self.now) }
-    {}
 
     // Fills the lists with task number, length and bound of the first place, the second and so on; entries past the
     // last place stay.
@@ -48,7 +42,7 @@ impl<R: Rule> FixedTable<R> {
         if tasks.len() < count || lengths.len() < count || bounds.len() < count {
             return Err(Refusal::TooShort);
         }
-        self.fill(tasks, lengths, bounds);
+        write_places(&self.order, &self.rows.items, tasks, lengths, bounds);
         Ok(self.marks)
     }
 
@@ -57,13 +51,6 @@ impl<R: Rule> FixedTable<R> {
         ensures { take (length (holds self.now).tasks) result ≡ (holds self.now).order }
     {
         order_of(&self.order)
-    }
-
-    fn fill(&self, tasks: &mut [u32], lengths: &mut [u32], bounds: &mut [u32])
-        requires { Room (holds self.now) (lent tasks.old lengths.old bounds.old) }
-        ensures { lent tasks.new lengths.new bounds.new ≡ filled (holds self.now) (lent tasks.old lengths.old bounds.old) }
-    {
-        write_places(&self.order, &self.rows.items, tasks, lengths, bounds);
     }
 }
 
