@@ -1,4 +1,4 @@
-ghost use Rattle.std.specs.Prelude.{◌≡◌, ℕ, ◌<◌, ◌≤◌, length, take, slice_index};
+ghost use Rattle.std.specs.Prelude.{◌≡◌, ℕ, ◌≤◌, length, take};
 ghost use Rattle.analysis.specs.Plans.{Named};
 ghost use Rattle.planner.specs.Rows.{tasks as row_tasks, lengths as row_lengths, bounds as row_bounds};
 ghost use Rattle.planner.specs.Tables.{holds};
@@ -25,14 +25,8 @@ impl<R: Rule> FixedTable<R> {
         ensures bounds { row_bounds result.now ≡ (holds self.now).bounds }
         ensures within { FixedWithinLimits (holds self.now) }
     {
-        self.keeps_limits();
         &self.rows.items
     }
-
-    // That every fixed table keeps its limits.
-    fn keeps_limits(&self)
-        ensures { FixedWithinLimits (holds self.now) }
-    {}
 
     // Fills the lists with task number, length and bound of the first place, the second and so on; entries past the
     // last place stay.
@@ -48,7 +42,7 @@ impl<R: Rule> FixedTable<R> {
         if tasks.len() < count || lengths.len() < count || bounds.len() < count {
             return Err(Refusal::TooShort);
         }
-        self.fill(tasks, lengths, bounds);
+        write_places(&self.order, &self.rows.items, tasks, lengths, bounds);
         Ok(self.marks)
     }
 
@@ -57,14 +51,6 @@ impl<R: Rule> FixedTable<R> {
         ensures { take (length (holds self.now).tasks) result ≡ (holds self.now).order }
     {
         order_of(&self.order)
-    }
-
-    fn fill(&self, tasks: &mut [u32], lengths: &mut [u32], bounds: &mut [u32])
-        requires { Room (holds self.now) (lent tasks.old lengths.old bounds.old) }
-        ensures { lent tasks.new lengths.new bounds.new ≡ filled (holds self.now) (lent tasks.old lengths.old bounds.old) }
-    {
-        write_numbers(&self.order, tasks);
-        write_places(&self.order, &self.rows.items, lengths, bounds);
     }
 }
 
@@ -78,28 +64,27 @@ fn order_of(order: &[usize]) -> [usize; 32]
     found
 }
 
-// The task numbers, the highest place first. The order is kept from the lowest place up.
-pub(in crate::tables) fn write_numbers(order: &[usize], out: &mut [u32])
-    requires small { (p : ℕ) → p < length order.now → slice_index order.now p < 32 }
-    requires room { length order.now ≤ length out.old }
-    ensures { out.new ≡ over (standing order.now) out.old }
-{
-    let count = order.len();
-    for p in 0..count {
-        out[p] = order[count - 1 - p] as u32 + 1;
-    }
-}
-
-// What belongs to the task of each place, the highest first.
-fn write_places(order: &[usize], rows: &[Row], lengths: &mut [u32], bounds: &mut [u32])
+// The number, the length and the bound of the task of each place, the highest first. The order is kept from the lowest
+// place up.
+fn write_places(
+    order: &[usize],
+    rows: &[Row],
+    tasks: &mut [u32],
+    lengths: &mut [u32],
+    bounds: &mut [u32],
+)
+    requires few { length rows.now ≤ 32 }
     requires named { Named (length rows.now) order.now }
-    requires room { (length order.now ≤ length lengths.old) × (length order.now ≤ length bounds.old) }
+    requires room { (length order.now ≤ length tasks.old) × (length order.now ≤ length lengths.old) × (length order.now ≤ length bounds.old) }
+    ensures tasks { tasks.new ≡ over (standing order.now) tasks.old }
     ensures lengths { lengths.new ≡ over (as_standing order.now (row_lengths rows.now)) lengths.old }
     ensures bounds { bounds.new ≡ over (as_standing order.now (row_bounds rows.now)) bounds.old }
 {
+    // a `for` over `order.iter().rev().enumerate()` left its proof open
     let count = order.len();
     for p in 0..count {
         let k = order[count - 1 - p];
+        tasks[p] = k as u32 + 1;
         lengths[p] = rows[k].length;
         bounds[p] = rows[k].bound;
     }

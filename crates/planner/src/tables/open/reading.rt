@@ -20,12 +20,6 @@ impl OpenTable {
         ensures fresh { Fresh result.now }
         ensures within { OpenWithinLimits (held self.now) }
     {
-        self.keeps_limits();
         &self.rows.items
     }
-
-    // That every open table keeps its limits.
-    fn keeps_limits(&self)
-        ensures { OpenWithinLimits (held self.now) }
-    {}
 }

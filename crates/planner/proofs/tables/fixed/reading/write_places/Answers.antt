@@ -1,4 +1,4 @@
-use Rattle.std.proofs.Common.{◌≡◌, ◌-◌, ◌<◌, length, get_or, sym, arith}
+use Rattle.std.proofs.Common.{◌≡◌, ◌+◌, ◌-◌, ◌<◌, length, get_or, sym, refl, arith}
 use Rattle.std.proofs.lemmas.List.{get_or-map}
 use Rattle.planner.specs.Rows.{lengths, bounds}
 use Rattle.planner.proofs.OnWrites.{blank}
@@ -14,8 +14,9 @@ loop-p-preserved c =
     let here : p < length q = omega arith in
     let k = get_or q (length q - 1 - p) 0 in
     let inside : k < length rows = (c.requires.named (length q - 1 - p) (omega arith)).0 in (
-      column_more (λ j. get_or (lengths rows) j 0) q c.args.lengths.now c.loop-p.lengths p _ here (omega arith) v.0 (sym (get_or-map (λ r. r.length) rows k blank 0 inside)),
-      column_more (λ j. get_or (bounds rows) j 0) q c.args.bounds.now c.loop-p.bounds p _ here (omega arith) v.1 (sym (get_or-map (λ r. r.bound) rows k blank 0 inside)),
+      column_more (λ j. j + 1) q c.args.tasks.now c.loop-p.tasks p (k + 1) here (omega arith) v.0 refl,
+      column_more (λ j. get_or (lengths rows) j 0) q c.args.lengths.now c.loop-p.lengths p _ here (omega arith) v.1 (sym (get_or-map (λ r. r.length) rows k blank 0 inside)),
+      column_more (λ j. get_or (bounds rows) j 0) q c.args.bounds.now c.loop-p.bounds p _ here (omega arith) v.2 (sym (get_or-map (λ r. r.bound) rows k blank 0 inside)),
     )
 
 pub returns : goal.returns
@@ -26,6 +27,7 @@ returns c =
     let v = c.loop-p.invariant in
     let all : p ≡ length q = omega arith in
     record {
-      lengths = column_all (λ j. get_or (lengths rows) j 0) q c.args.lengths.now c.loop-p.lengths p all v.0;
-      bounds = column_all (λ j. get_or (bounds rows) j 0) q c.args.bounds.now c.loop-p.bounds p all v.1;
+      tasks = column_all (λ j. j + 1) q c.args.tasks.now c.loop-p.tasks p all v.0;
+      lengths = column_all (λ j. get_or (lengths rows) j 0) q c.args.lengths.now c.loop-p.lengths p all v.1;
+      bounds = column_all (λ j. get_or (bounds rows) j 0) q c.args.bounds.now c.loop-p.bounds p all v.2;
     }
