@@ -1,14 +1,12 @@
 -- Calls on tables that are not refused.
-use Rattle.std.proofs.Common.{◌≡◌, ℕ, ◌+◌, ◌<◌, ◌≤◌, true, false, List, [], ◌∷◌, ◌++◌, length, get_or, take, drop, Ok, Err, Result, sym, ap, ◌∙◌, ⊎_elim, arith}
-use Rattle.std.proofs.lemmas.List.{take_more, append_assoc, nil_from_length, length-append, length-take-le}
+use Rattle.std.proofs.Common.{◌≡◌, ℕ, ◌<◌, true, false, [], length, drop, Ok, Err, Result, sym, ◌∙◌, ⊎_elim, arith}
+use Rattle.std.proofs.lemmas.List.{nil_from_length}
 use Rattle.std.proofs.lemmas.Bool.{cases_lt, false≢true}
 use Rattle.std.specs.Result.{is_ok}
-use Rattle.analysis.specs.declared.task.Task.{Task}
-use Rattle.analysis.specs.Rivals.{TaskWithinLimits}
 use Rattle.planner.specs.declared.refusal.Refusal.{Refusal}
 use Rattle.planner.specs.Refusals.{number, Called}
 use Rattle.planner.specs.Tables.{Open, opened}
-use Rattle.planner.specs.Calls.{CoresWithinLimits, CoresRefuses, CoresMakes, EnterRefuses, EnterMakes, StrikeRefuses, StrikeMakes}
+use Rattle.planner.specs.Calls.{StrikeRefuses, StrikeMakes}
 
 pub not_refused : {A M : Type 0} (r : Result A Refusal) (refuses : ℕ → Type 0) (makes : M → Type 0) (before after : M) → Called r refuses makes before after → ((k : ℕ) → refuses k → ⊥) → makes after
 not_refused (Ok x) refuses makes before after h n = h
