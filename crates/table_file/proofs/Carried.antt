@@ -1,13 +1,13 @@
 -- What a table holds makes a file that can be read.
 use Rattle.std.proofs.Common.{◌≡◌, ℕ, ◌+◌, ◌-◌, ◌<◌, List, [], ◌∷◌, map, reverse, length, get_or, take, drop, Ok, Err, Result, sym, refl, ap, ◌∙◌, subst, arith}
-use Rattle.std.proofs.lemmas.List.{length-map, length-reverse, get_or-map, take-map, take_at, get_or_default}
+use Rattle.std.proofs.lemmas.List.{length-map, length-reverse, get_or-map, take-map, take_at}
 use Rattle.analysis.specs.Rivals.{among}
 use Rattle.planner.specs.declared.marks.Marks.{Marks}
 use Rattle.planner.specs.declared.refusal.Refusal.{Refusal}
-use Rattle.planner.specs.Tables.{Open, Fixed}
-use Rattle.planner.specs.Reading.{OpenWithinLimits, FixedWithinLimits, ReadsOut, Lent, lent, over, standing, as_standing, Room}
+use Rattle.planner.specs.Tables.{Fixed}
+use Rattle.planner.specs.Reading.{FixedWithinLimits, ReadsOut, Lent, lent, over, standing, as_standing, Room}
 use Rattle.table_file.specs.declared.place.Place.{Place}
-use Rattle.table_file.specs.Stored.{Stored, of_open, of_fixed, placed, numbers, no_place, PlaceFits, EachFits, Valid}
+use Rattle.table_file.specs.Stored.{of_fixed, placed, numbers, no_place, PlaceFits, EachFits, Valid}
 use Rattle.table_file.specs.Puts.{paired}
 use Rattle.table_file.proofs.Distinct.{fresh_apart, standing_apart, standing_named, length_standing}
 

@@ -1,6 +1,6 @@
 -- Laws of text written at a place of a list.
-use Rattle.std.proofs.Common.{◌≡◌, ℕ, ◌+◌, ◌<◌, ◌≤◌, List, [], ◌∷◌, ◌++◌, length, take, drop, set, sym, ap, ◌∙◌, add_assoc, zero-add, add-one, arith, length-append, length-take-le}
-use Rattle.std.proofs.lemmas.List.{append_assoc, set_split, take_at, drop_at, drop-drop}
+use Rattle.std.proofs.Common.{◌≡◌, ℕ, ◌+◌, ◌≤◌, List, ◌++◌, length, take, drop, sym, ap, ◌∙◌, add_assoc, zero-add, arith, length-append, length-take-le}
+use Rattle.std.proofs.lemmas.List.{append_assoc, take_at, drop_at, drop-drop}
 use Rattle.planner.specs.Reading.{over}
 use Rattle.table_file.specs.Puts.{put}
 

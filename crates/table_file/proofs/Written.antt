@@ -1,8 +1,8 @@
 -- A file that is written line by line.
-use Rattle.std.proofs.Common.{◌≡◌, ℕ, ◌+◌, ◌*◌, ◌<◌, ◌≤◌, List, [], ◌++◌, length, get_or, take, drop, sym, ap, ◌∙◌, add-zero, arith, length-append}
+use Rattle.std.proofs.Common.{◌≡◌, ℕ, ◌+◌, ◌*◌, ◌<◌, ◌≤◌, List, [], ◌++◌, length, get_or, take, drop, sym, ap, ◌∙◌, arith, length-append}
 use Rattle.std.specs.List.{flat_map}
 use Rattle.std.proofs.Math.Nat.{mul-le-mul_left}
-use Rattle.std.proofs.lemmas.List.{take-append-drop, take_more, flat_map_more, append-nil, take_at}
+use Rattle.std.proofs.lemmas.List.{take_more, flat_map_more, take_at}
 use Rattle.analysis.specs.declared.task.Task.{Task}
 use Rattle.planner.specs.Reading.{over}
 use Rattle.table_file.specs.declared.place.Place.{Place}

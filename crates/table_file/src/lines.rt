@@ -1,22 +1,22 @@
-ghost use Rattle.std.specs.Prelude.{◌≡◌, ◌+◌, ◌<◌, ◌≤◌, length, position, IfOk, MatchResult};
+ghost use Rattle.std.specs.Prelude.{◌≡◌, ◌+◌, ◌*◌, ◌<◌, ◌≤◌, length, position, IfOk, MatchResult};
 ghost use Rattle.table_file.specs.Lines.{wrong, line_length, head_line, after_line, check_line, seen_line};
 
 use crate::digits::is_hex;
 use crate::fault::{Fault, Number};
 use crate::stretch::Stretch;
 
-// What is left of a file, and the number of its first line.
+// What is left of a file, and the number of its first line. Each line before it had two bytes at least.
 #[derive(Drop)]
 pub(crate) struct Lines<'a> {
     pub(crate) rest: &'a [u8],
     pub(crate) line: u16,
+    ghost counted: { 1 ≤ line },
+    ghost short: { 2 * line + length rest.now ≤ 65537 },
 }
 
 impl<'a> Lines<'a> {
     // Takes the next line off the rest.
     pub(crate) fn take(&mut self) -> Result<Stretch<'a>, Fault>
-        requires few { self.old.line < 65535 }
-        requires short { length self.old.rest.now ≤ 65535 }
         ensures answer { seen_line result ≡ check_line (head_line self.old.rest.now) self.old.line }
         ensures after { MatchResult result (λ s. (s.line ≡ self.old.line) × (self.new.line ≡ self.old.line + 1) × (self.new.rest.now ≡ after_line self.old.rest.now)) (λ _. self.new ≡ self.old) }
         ensures shorter { IfOk result (λ _. length self.new.rest.now + 3 ≤ length self.old.rest.now) }

@@ -14,8 +14,6 @@ use arrayvec::ArrayVec;
 
 const MOST_CORES: u8 = 16;
 
-const MOST_TASKS: usize = 32;
-
 // Which frames are due: the core count, tasks or places, places only.
 #[derive(Clone, Copy)]
 pub(crate) enum Phase {
@@ -75,7 +73,7 @@ impl Reader {
     fn take_task(&mut self, fields: Fields<12>) -> Result<(), Fault>
         ensures { Steps (step_task (view self.old) fields.entry.digits.now fields.entry.line) result self.old self.new }
     {
-        if self.tasks.len() >= MOST_TASKS {
+        if self.tasks.is_full() {
             return Err(Fault::of_line(Number::TableFull, fields.line));
         }
         let task = task_in(fields);

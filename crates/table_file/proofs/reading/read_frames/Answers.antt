@@ -9,12 +9,7 @@ use Rattle.table_file.proofs.Onward.{to_file, line_fault, frame_fault, step_faul
 use Rattle.table_file.proofs.reading.read_frames.Goals as goal
 
 pub loop-lines-init : goal.loop-lines-init
-loop-lines-init c = (omega arith, omega arith, ap (λ st. read_lines 1 st (lines_of c.args.bytes.now)) c.new-reader.ensures)
-
-pub take-requires : goal.take-requires
-take-requires c =
-    let h = eqb-false _ _ (sym c.loop-lines-test.ensures) in
-    record { few = omega arith; short = omega arith }
+loop-lines-init c = ap (λ st. read_lines 1 st (lines_of c.args.bytes.now)) c.new-reader.ensures
 
 pub returns-in_err-line : goal.returns-in_err-line
 returns-in_err-line c =
@@ -22,7 +17,7 @@ returns-in_err-line c =
     let h = eqb-false _ _ (sym c.loop-lines-test.ensures) in
     let l = c.loop-lines.lines in
     rw (p.1, p.2)
-    (to_file c.args.bytes.now l.rest.now l.line (view c.loop-lines.reader) (omega arith) c.loop-lines.invariant.2 _
+    (to_file c.args.bytes.now l.rest.now l.line (view c.loop-lines.reader) (omega arith) c.loop-lines.invariant _
     (line_fault l.line (view c.loop-lines.reader) l.rest.now (omega arith) _ (sym c.in_err-line.ensures.answer)))
 
 pub returns-in_err-frame : goal.returns-in_err-frame
@@ -32,7 +27,7 @@ returns-in_err-frame c =
     let l = c.loop-lines.lines in
     let s = c.in_ok-line in
     rw (p.1, p.2)
-    (to_file c.args.bytes.now l.rest.now l.line (view c.loop-lines.reader) (omega arith) c.loop-lines.invariant.2 _
+    (to_file c.args.bytes.now l.rest.now l.line (view c.loop-lines.reader) (omega arith) c.loop-lines.invariant _
     (frame_fault l.line (view c.loop-lines.reader) l.rest.now (omega arith) s.line.digits.now (sym s.ensures.answer) _
     (ap (form_of s.line.digits.now) (sym s.ensures.after.0) ∙ sym c.in_err-frame.ensures)))
 
@@ -43,7 +38,7 @@ returns-in_err-accept c =
     let l = c.loop-lines.lines in
     let s = c.in_ok-line in
     rw (p.1, p.2)
-    (to_file c.args.bytes.now l.rest.now l.line (view c.loop-lines.reader) (omega arith) c.loop-lines.invariant.2 _
+    (to_file c.args.bytes.now l.rest.now l.line (view c.loop-lines.reader) (omega arith) c.loop-lines.invariant _
     (step_fault l.line (view c.loop-lines.reader) l.rest.now (omega arith) s.line.digits.now (sym s.ensures.answer) _
     (ap (form_of s.line.digits.now) (sym s.ensures.after.0) ∙ sym c.in_ok-frame.ensures) _
     c.in_err-accept.ensures.0))
@@ -54,13 +49,10 @@ loop-lines-preserved c =
     let l = c.loop-lines.lines in
     let s = c.in_ok-line in
     let a = s.ensures.after in
-    let goes = step_goes l.line (view c.loop-lines.reader) l.rest.now (omega arith) s.line.digits.now (sym s.ensures.answer) _
-    (ap (form_of s.line.digits.now) (sym a.0) ∙ sym c.in_ok-frame.ensures) (view c.accept.new.self)
-    c.in_ok-accept.ensures in (
-      omega (arith, a.1),
-      omega (arith, a.1, s.ensures.shorter),
-      (λ i. read_lines (a.1 i) (view c.accept.new.self) (lines_of (a.2 i))) ∙ sym goes ∙ c.loop-lines.invariant.2,
-    )
+    (λ i. read_lines (a.1 i) (view c.accept.new.self) (lines_of (a.2 i)))
+    ∙ sym (step_goes l.line (view c.loop-lines.reader) l.rest.now (omega arith) s.line.digits.now (sym s.ensures.answer) _
+    (ap (form_of s.line.digits.now) (sym a.0) ∙ sym c.in_ok-frame.ensures) (view c.accept.new.self) c.in_ok-accept.ensures)
+    ∙ c.loop-lines.invariant
 
 pub returns-in_err-finish : goal.returns-in_err-finish
 returns-in_err-finish c =
@@ -69,7 +61,7 @@ returns-in_err-finish c =
     let l = c.loop-lines.lines in
     let st = view c.loop-lines.reader in
     rw (p.1, p.2)
-    (to_file c.args.bytes.now l.rest.now l.line st (omega arith) c.loop-lines.invariant.2 _
+    (to_file c.args.bytes.now l.rest.now l.line st (omega arith) c.loop-lines.invariant _
     (read_done l.line st l.rest.now h ∙ ap (λ r. bind r (λ _. Ok (carried st))) (sym c.in_err-finish.ensures)))
 
 pub returns : goal.returns
@@ -77,5 +69,5 @@ returns c =
     let h = eqb-true _ _ (sym c.loop-lines-test.ensures) in
     let l = c.loop-lines.lines in
     let st = view c.loop-lines.reader in
-    to_file c.args.bytes.now l.rest.now l.line st (omega arith) c.loop-lines.invariant.2 _
+    to_file c.args.bytes.now l.rest.now l.line st (omega arith) c.loop-lines.invariant _
     (read_done l.line st l.rest.now h ∙ ap (λ r. bind r (λ _. Ok (carried st))) (sym c.in_ok-finish.ensures))
