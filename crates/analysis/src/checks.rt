@@ -3,14 +3,10 @@ ghost use Rattle.analysis.specs.Rivals.{TaskWithinLimits, MakesSet};
 ghost use Rattle.analysis.specs.Plans.{IsOrder, Suits};
 ghost use Rattle.analysis.specs.Words.{Tells};
 
+use crate::limits::MOST_TASKS;
 use crate::rivals::stands;
 use crate::task::Task;
-
-const MOST_CORES: u32 = 16;
-
-const MOST_TASKS: usize = 32;
-
-const MOST_TICKS: u32 = 65_535;
+use interference::limits::{MOST_CORES, MOST_TICKS};
 
 // Whether these tasks on so many cores make a `TaskSet`.
 pub fn is_task_set(cores: u32, tasks: &[Task]) -> bool

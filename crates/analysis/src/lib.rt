@@ -7,6 +7,7 @@ mod finder;
 pub mod four_tests;
 pub mod lengths;
 mod level;
+pub mod limits;
 mod passing;
 mod place;
 pub mod plan;

@@ -4,9 +4,8 @@ ghost use Rattle.analysis.specs.Plans.{Named, IsOrder, IsChoice, Suits};
 
 use crate::checks::{is_choice, is_order, is_task_set};
 use crate::level::Level;
+use crate::limits::MOST_PLANNED;
 use crate::task::Task;
-
-const MOST_TO_PLAN: usize = 8;
 
 // At most 32 tasks within their limits, by number, on 1 to 16 cores.
 #[derive(Clone, Copy)]
@@ -48,7 +47,7 @@ impl<'a> TaskSet<'a> {
     pub fn small(self) -> Option<SmallSet<'a>>
         ensures { MatchOption result (length self.entry.tasks.now ≤ 8 → ⊥) (λ s. s.set ≡ self.entry) }
     {
-        if self.tasks.len() <= MOST_TO_PLAN {
+        if self.tasks.len() <= MOST_PLANNED {
             Some(SmallSet { set: self })
         } else {
             None

@@ -9,13 +9,12 @@ ghost use Rattle.examples.specs.TwiceLaws.{twice_lawful};
 
 use interference::full::Full;
 use interference::handler::Handler;
+use interference::limits::MOST_SUM;
 use interference::question::Question;
 use interference::rule::Rule;
 use interference::steady::SteadyRule;
 use planner::open::OpenTable;
 use planner::replay::{Call, Report, Table, replay};
-
-const SUM_LIMIT: u32 = 1_000_000_000;
 
 // A rule from outside the crates of rules: twice the full sum, for a margin.
 #[derive(Clone, Copy)]
@@ -27,7 +26,7 @@ impl Rule for Twice {
     ghost laws = { λ s. twice_lawful };
 
     fn sum(&self, q: &Question) -> u32 {
-        (2 * Full.sum(q)).min(SUM_LIMIT)
+        (2 * Full.sum(q)).min(MOST_SUM)
     }
 }
 

@@ -83,7 +83,9 @@ fn handlers_are_checked(rt: HostRuntime) {
     assert!(rt; Interrupt::check(11, 10).is_err());
     assert!(rt; Interrupt::check(1, 65_536).is_err());
     assert_eq!(rt;
-        Interrupt::check(0, 0).err().map(|refusal| u8::from(refusal)),
+        Interrupt::check(0, 0)
+            .err()
+            .map(|refusal| u8::from(refusal)),
         Some(3)
     );
 }

@@ -11,8 +11,7 @@ use crate::stretch::Fields;
 use analysis::checks::is_within_limits;
 use analysis::task::Task;
 use arrayvec::ArrayVec;
-
-const MOST_CORES: u8 = 16;
+use interference::limits::MOST_CORES;
 
 // Which frames are due: the core count, tasks or places, places only.
 #[derive(Clone, Copy)]
@@ -61,11 +60,11 @@ impl Reader {
     fn take_cores(&mut self, fields: Fields<2>) -> Result<(), Fault>
         ensures { Steps (step_cores (view self.old) fields.entry.digits.now fields.entry.line) result self.old self.new }
     {
-        let cores = cores_in(fields);
+        let cores = u32::from(cores_in(fields));
         if cores < 1 || cores > MOST_CORES {
             return Err(Fault::of_line(Number::CoreCount, fields.line));
         }
-        self.cores = u32::from(cores);
+        self.cores = cores;
         self.phase = Phase::Tasks;
         Ok(())
     }

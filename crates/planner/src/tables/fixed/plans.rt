@@ -7,11 +7,10 @@ use super::FixedTable;
 use super::search::{Halving, Search, Trying};
 use crate::marks::Marks;
 use crate::refusal::Refusal;
+use analysis::limits::MOST_PLANNED;
 use analysis::task_set::SmallSet;
 use interference::rule::Rule;
 use interference::steady::SteadyRule;
-
-const MOST_PLANNED: usize = 8;
 
 impl<R: Rule> FixedTable<R> {
     // Sets the first order that passes with some lengths, and the least of these.

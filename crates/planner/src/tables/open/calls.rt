@@ -7,12 +7,10 @@ use super::OpenTable;
 use crate::refusal::Refusal;
 use crate::rows::Rows;
 use analysis::checks::is_within_limits;
+use analysis::limits::MOST_TASKS;
 use analysis::task::Task;
+use interference::limits::MOST_CORES;
 use std::alloc::{AllocError, Global};
-
-const MOST_CORES: u32 = 16;
-
-const MOST_TASKS: usize = 32;
 
 impl OpenTable {
     // An empty table with one core. Only this can want memory.
