@@ -1,11 +1,13 @@
 -- When each call is refused, by number, and what it makes otherwise. Conditions are tested in the order in which they
 -- stand; each later one says that the earlier did not hold.
-use Rattle.std.specs.Prelude.{◌≡◌, ℕ, ◌-◌, ◌<◌, ◌≤◌, true, false, ◌⊎◌, List, [], ◌∷◌, ◌++◌, length, take, drop, replicate, slice_index, slice_index_or, slice_set}
+use Rattle.std.specs.Prelude.{◌≡◌, ℕ, ◌-◌, ◌<◌, ◌≤◌, true, false, ◌⊎◌, List, [], ◌∷◌, ◌++◌, Result, length, take, drop, replicate, slice_index, slice_index_or, slice_set}
 use Rattle.interference.specs.Questions.{Query}
 use Rattle.analysis.specs.declared.task.Task.{Task}
 use Rattle.analysis.specs.Rivals.{TaskWithinLimits, no_task}
 use Rattle.analysis.specs.Plans.{IsOrder, LeastLengths, NoLengths, FirstPlan, NoPlan}
 use Rattle.analysis.specs.Bounds.{LeastSolution, NoSolution}
+use Rattle.planner.specs.declared.refusal.Refusal.{Refusal}
+use Rattle.planner.specs.Refusals.{Called}
 use Rattle.planner.specs.Tables.{Open, opened, Fixed, fixed}
 
 abbrev pub CoresWithinLimits : ℕ → Type 0
@@ -102,3 +104,14 @@ module _ (m : Fixed) where
     abbrev pub BoundsMakes : Fixed → Type 0
     BoundsMakes n = (bs : List ℕ) × (length bs ≡ length m.tasks) × LeastSolution sum m.cores m.tasks m.order m.lengths bs
         × (n ≡ fixed m.cores m.tasks m.order m.lengths bs m.passed true)
+
+    -- what comes of a search, and what it leaves
+    module _ {A : Type 0} (r : Result A Refusal) (n : Fixed) where
+      abbrev pub LengthsSought : Type 0
+      LengthsSought = Called r LengthsRefuses LengthsMakes m n
+
+      abbrev pub PlanSought : Type 0
+      PlanSought = Called r PlanRefuses PlanMakes m n
+
+      abbrev pub BoundsSought : Type 0
+      BoundsSought = Called r BoundsRefuses BoundsMakes m n

@@ -16,7 +16,7 @@ use Rattle.planner.specs.declared.replay.Outcome.{Outcome}
 use Rattle.planner.specs.declared.replay.Outcome.TheVariants.{Done, Refused, NotApplicable}
 use Rattle.planner.specs.Refusals.{number, Called}
 use Rattle.planner.specs.Tables.{Open, Fixed, held, holds}
-use Rattle.planner.specs.Calls.{CoresRefuses, CoresMakes, EnterRefuses, EnterMakes, StrikeRefuses, StrikeMakes, AmendRefuses, AmendMakes, OrderRefuses, OrderMakes, StretchRefuses, StretchMakes, LengthsRefuses, LengthsMakes, PlanRefuses, PlanMakes, BoundsRefuses, BoundsMakes}
+use Rattle.planner.specs.Calls.{CoresRefuses, CoresMakes, EnterRefuses, EnterMakes, StrikeRefuses, StrikeMakes, AmendRefuses, AmendMakes, OrderRefuses, OrderMakes, StretchRefuses, StretchMakes, LengthsSought, PlanSought, BoundsSought}
 use Rattle.planner.specs.History.{Request, cores, enter, strike, amend, fix, order, stretch, seek_lengths, quick_lengths, seek_plan, quick_plan, seek_bounds, reopen, State, still, joined, Came, done, refused, not_applicable}
 
 -- a rule that a table was fixed under, any rule or a steady one
@@ -82,10 +82,10 @@ OpenDoes r m (Amend i c) n = Called r (AmendRefuses m i c) (AmendMakes m i c) m 
 abbrev pub FixedDoes : {X : Type 0} → Result X Refusal → (Query → ℕ) → Fixed → FixedCall → Fixed → Type 0
 FixedDoes r sum m (Order xs) n = Called r (OrderRefuses m (vec_items xs)) (OrderMakes m (vec_items xs)) m n
 FixedDoes r sum m (Stretch i l) n = Called r (StretchRefuses m i l) (StretchMakes m i l) m n
-FixedDoes r sum m SeekLengths n = Called r (LengthsRefuses m sum) (LengthsMakes m sum) m n
-FixedDoes r sum m SeekPlan n = Called r (PlanRefuses m sum) (PlanMakes m sum) m n
-FixedDoes r sum m SeekBounds n = Called r (BoundsRefuses m sum) (BoundsMakes m sum) m n
+FixedDoes r sum m SeekLengths n = LengthsSought m sum r n
+FixedDoes r sum m SeekPlan n = PlanSought m sum r n
+FixedDoes r sum m SeekBounds n = BoundsSought m sum r n
 
 abbrev pub QuickDoes : {X : Type 0} → Result X Refusal → (Query → ℕ) → Fixed → QuickCall → Fixed → Type 0
-QuickDoes r sum m Lengths n = Called r (LengthsRefuses m sum) (LengthsMakes m sum) m n
-QuickDoes r sum m Plan n = Called r (PlanRefuses m sum) (PlanMakes m sum) m n
+QuickDoes r sum m Lengths n = LengthsSought m sum r n
+QuickDoes r sum m Plan n = PlanSought m sum r n

@@ -1,3 +1,6 @@
+ghost use Rattle.std.specs.Prelude.{◌≡◌};
+ghost use Rattle.planner.specs.Replaying.{came, answered};
+
 use crate::columns::NO_TASK;
 use crate::fixed::FixedTable;
 use crate::marks::Marks;
@@ -61,6 +64,17 @@ pub enum Outcome {
     Done,
     Refused(Refusal),
     NotApplicable,
+}
+
+impl From<Result<(), Refusal>> for Outcome {
+    ghost from_gives = { λ r outcome. came outcome ≡ answered r };
+
+    fn from(r: Result<(), Refusal>) -> Outcome {
+        match r {
+            Ok(()) => Outcome::Done,
+            Err(refusal) => Outcome::Refused(refusal),
+        }
+    }
 }
 
 // How the tasks of a fixed table stand. Order is from the lowest place up, by task index; places has the task numbers, the

@@ -1,13 +1,11 @@
 ghost use Rattle.std.specs.Prelude.{◌≡◌, ℕ, length, take};
 ghost use Rattle.planner.specs.Tables.{Open, Fixed, held, holds};
-ghost use Rattle.planner.specs.Reading.{standing};
 ghost use Rattle.planner.specs.Replaying.{state};
 ghost use Rattle.planner.specs.Reporting.{ShowsOpen, ShowsStanding, ShowsFixed, Shows};
 
 use super::{Outcome, Report, Standing, Table};
 use crate::columns::{bounds_of, lengths_of, tasks_of};
 use crate::fixed::FixedTable;
-use crate::marks::Marks;
 use crate::open::OpenTable;
 use interference::rule::Rule;
 use interference::steady::SteadyRule;
@@ -56,28 +54,17 @@ fn standing<R: Rule>(t: &FixedTable<R>) -> Standing
     ensures { ShowsStanding (holds t.now) (length (holds t.now).tasks) result }
 {
     let rows = t.rows();
-    let (marks, places) = standing_places(t);
+    let mut places = [0; 32];
+    let mut by_place = [0; 32];
+    let mut late = [0; 32];
+    let Ok(marks) = t.read_out(&mut places, &mut by_place, &mut late) else {
+        unreachable()
+    };
     Standing {
         marks,
         order: t.read_order(),
         places,
         lengths: lengths_of(rows),
         bounds: bounds_of(rows),
-    }
-}
-
-// Both marks, and the task numbers, the highest place first, in the first entries of an array.
-fn standing_places<R: Rule>(t: &FixedTable<R>) -> (Marks, [u32; 32])
-    ensures passed { result.0.passed ≡ (holds t.now).passed }
-    ensures bounded { result.0.bounded ≡ (holds t.now).bounded }
-    ensures places { take (length (holds t.now).tasks) result.1 ≡ standing (holds t.now).order }
-{
-    let _rows = t.rows();
-    let mut places = [0; 32];
-    let mut by_place = [0; 32];
-    let mut late = [0; 32];
-    match t.read_out(&mut places, &mut by_place, &mut late) {
-        Ok(marks) => (marks, places),
-        Err(_) => unreachable(),
     }
 }

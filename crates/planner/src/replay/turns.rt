@@ -3,7 +3,7 @@ ghost use Rattle.planner.specs.Tables.{held, holds};
 ghost use Rattle.planner.specs.History.{Turn, still};
 ghost use Rattle.planner.specs.Reporting.{Shows};
 ghost use Rattle.planner.specs.Promises.{Promises};
-ghost use Rattle.planner.specs.Replaying.{sum_under, Steadily, request, state, came, answered, OpenDoes, FixedDoes, QuickDoes};
+ghost use Rattle.planner.specs.Replaying.{sum_under, Steadily, request, state, came, OpenDoes, FixedDoes, QuickDoes};
 
 use super::reports::report;
 use super::{Call, FixedCall, OpenCall, Outcome, QuickCall, Report, Table};
@@ -12,15 +12,6 @@ use crate::open::OpenTable;
 use crate::refusal::Refusal;
 use interference::rule::Rule;
 use interference::steady::SteadyRule;
-
-fn outcome(r: Result<(), Refusal>) -> Outcome
-    ensures { came result ≡ answered r }
-{
-    match r {
-        Ok(()) => Outcome::Done,
-        Err(e) => Outcome::Refused(e),
-    }
-}
 
 // A call for open tables, by the method of its name.
 fn on_open(t: &mut OpenTable, call: OpenCall) -> Result<(), Refusal>
@@ -69,22 +60,22 @@ fn turn<R: Rule + Drop, S: SteadyRule + Drop>(
     match (table, call) {
         (Table::Open(mut t), Call::Open(c)) => {
             let r = on_open(&mut t, c);
-            (Table::Open(t), outcome(r))
+            (Table::Open(t), Outcome::from(r))
         }
         (Table::Open(t), Call::Fix(rule)) => (Table::Fixed(t.fix(rule)), Outcome::Done),
         (Table::Open(t), Call::FixSteady(rule)) => (Table::Steady(t.fix(rule)), Outcome::Done),
         (Table::Fixed(mut t), Call::Fixed(c)) => {
             let r = on_fixed(&mut t, c);
-            (Table::Fixed(t), outcome(r))
+            (Table::Fixed(t), Outcome::from(r))
         }
         (Table::Fixed(t), Call::Reopen) => (Table::Open(t.reopen()), Outcome::Done),
         (Table::Steady(mut t), Call::Fixed(c)) => {
             let r = on_fixed(&mut t, c);
-            (Table::Steady(t), outcome(r))
+            (Table::Steady(t), Outcome::from(r))
         }
         (Table::Steady(mut t), Call::Quick(c)) => {
             let r = on_steady(&mut t, c);
-            (Table::Steady(t), outcome(r))
+            (Table::Steady(t), Outcome::from(r))
         }
         (Table::Steady(t), Call::Reopen) => (Table::Open(t.reopen()), Outcome::Done),
         (table, _) => (table, Outcome::NotApplicable),
@@ -120,6 +111,7 @@ pub fn replay<R: Rule + Drop, S: SteadyRule + Drop>(
 {
     let mut table = Table::Open(table);
     let mut rest = calls.into_iter();
+    // counted by hand: the count is a place for a report, and the answer
     let mut n = 0;
     'calls: while n < reports.len() {
         let Some(call) = rest.next() else {

@@ -1,7 +1,6 @@
 ghost use Rattle.std.specs.Prelude.{◌≡◌};
-ghost use Rattle.planner.specs.Refusals.{Called};
 ghost use Rattle.planner.specs.Tables.{holds};
-ghost use Rattle.planner.specs.Calls.{PlanRefuses, PlanMakes};
+ghost use Rattle.planner.specs.Calls.{PlanSought};
 
 use super::FixedTable;
 use super::search::{Halving, Search, Trying};
@@ -16,14 +15,14 @@ impl<R: Rule> FixedTable<R> {
     // Sets the first order that passes with some lengths, and the least of these.
     pub fn seek_plan(&mut self) -> Result<(), Refusal>
         ensures rule { self.new.rule ≡ self.old.rule }
-        ensures call { Called result (PlanRefuses (holds self.old) (R.Rule.meaning self.old.rule)) (PlanMakes (holds self.old) (R.Rule.meaning self.old.rule)) (holds self.old) (holds self.new) }
+        ensures call { PlanSought (holds self.old) (R.Rule.meaning self.old.rule) result (holds self.new) }
     {
         self.plan_by(&Trying)
     }
 
     fn plan_by<S: Search<R>>(&mut self, search: &S) -> Result<(), Refusal>
         ensures rule { self.new.rule ≡ self.old.rule }
-        ensures call { Called result (PlanRefuses (holds self.old) (R.Rule.meaning self.old.rule)) (PlanMakes (holds self.old) (R.Rule.meaning self.old.rule)) (holds self.old) (holds self.new) }
+        ensures call { PlanSought (holds self.old) (R.Rule.meaning self.old.rule) result (holds self.new) }
     {
         if self.rows.count() > MOST_PLANNED {
             return Err(Refusal::TooManyTasks);
@@ -42,7 +41,7 @@ impl<R: SteadyRule> FixedTable<R> {
     // Sets what seek plan would set, with fewer questions.
     pub fn quick_plan(&mut self) -> Result<(), Refusal>
         ensures rule { self.new.rule ≡ self.old.rule }
-        ensures call { Called result (PlanRefuses (holds self.old) (R.Rule.meaning self.old.rule)) (PlanMakes (holds self.old) (R.Rule.meaning self.old.rule)) (holds self.old) (holds self.new) }
+        ensures call { PlanSought (holds self.old) (R.Rule.meaning self.old.rule) result (holds self.new) }
     {
         self.plan_by(&Halving)
     }

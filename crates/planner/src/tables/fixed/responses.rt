@@ -1,7 +1,6 @@
 ghost use Rattle.std.specs.Prelude.{◌≡◌};
-ghost use Rattle.planner.specs.Refusals.{Called};
 ghost use Rattle.planner.specs.Tables.{holds};
-ghost use Rattle.planner.specs.Calls.{BoundsRefuses, BoundsMakes};
+ghost use Rattle.planner.specs.Calls.{BoundsSought};
 
 use super::FixedTable;
 use crate::refusal::Refusal;
@@ -13,7 +12,7 @@ impl<R: Rule> FixedTable<R> {
     // Sets the least bounds that solve the equations within the deadlines.
     pub fn seek_bounds(&mut self) -> Result<(), Refusal>
         ensures rule { self.new.rule ≡ self.old.rule }
-        ensures call { Called result (BoundsRefuses (holds self.old) (R.Rule.meaning self.old.rule)) (BoundsMakes (holds self.old) (R.Rule.meaning self.old.rule)) (holds self.old) (holds self.new) }
+        ensures call { BoundsSought (holds self.old) (R.Rule.meaning self.old.rule) result (holds self.new) }
     {
         let tasks = self.rows.read_tasks();
         let lengths = self.rows.read_lengths();

@@ -1,7 +1,6 @@
 ghost use Rattle.std.specs.Prelude.{◌≡◌};
-ghost use Rattle.planner.specs.Refusals.{Called};
 ghost use Rattle.planner.specs.Tables.{holds};
-ghost use Rattle.planner.specs.Calls.{LengthsRefuses, LengthsMakes};
+ghost use Rattle.planner.specs.Calls.{LengthsSought};
 
 use super::FixedTable;
 use super::search::{Halving, Search, Trying};
@@ -14,14 +13,14 @@ impl<R: Rule> FixedTable<R> {
     // Sets the least lengths with which every task passes in the standing order.
     pub fn seek_lengths(&mut self) -> Result<(), Refusal>
         ensures rule { self.new.rule ≡ self.old.rule }
-        ensures call { Called result (LengthsRefuses (holds self.old) (R.Rule.meaning self.old.rule)) (LengthsMakes (holds self.old) (R.Rule.meaning self.old.rule)) (holds self.old) (holds self.new) }
+        ensures call { LengthsSought (holds self.old) (R.Rule.meaning self.old.rule) result (holds self.new) }
     {
         self.lengths_by(&Trying)
     }
 
     fn lengths_by<S: Search<R>>(&mut self, search: &S) -> Result<(), Refusal>
         ensures rule { self.new.rule ≡ self.old.rule }
-        ensures call { Called result (LengthsRefuses (holds self.old) (R.Rule.meaning self.old.rule)) (LengthsMakes (holds self.old) (R.Rule.meaning self.old.rule)) (holds self.old) (holds self.new) }
+        ensures call { LengthsSought (holds self.old) (R.Rule.meaning self.old.rule) result (holds self.new) }
     {
         let tasks = self.rows.read_tasks();
         let order = self.read_order();
@@ -37,7 +36,7 @@ impl<R: SteadyRule> FixedTable<R> {
     // Sets what seek lengths would set, with fewer questions.
     pub fn quick_lengths(&mut self) -> Result<(), Refusal>
         ensures rule { self.new.rule ≡ self.old.rule }
-        ensures call { Called result (LengthsRefuses (holds self.old) (R.Rule.meaning self.old.rule)) (LengthsMakes (holds self.old) (R.Rule.meaning self.old.rule)) (holds self.old) (holds self.new) }
+        ensures call { LengthsSought (holds self.old) (R.Rule.meaning self.old.rule) result (holds self.new) }
     {
         self.lengths_by(&Halving)
     }

@@ -16,8 +16,8 @@ returns-in-Fixed-Fixed g c =
     let after : State (Under g.row.R.Denot g.row.S.Denot) = joined (plainly r.new.t.rule) (holds r.new.t) in
     let h = fixed_turn sum Steadily (plainly t.rule) (holds t) (holds r.new.t) k r.result r.ensures.call in
     let there = subst₂ (λ (o : Came) (s : State (Under g.row.R.Denot g.row.S.Denot)). Turn sum Steadily (joined (plainly t.rule) (holds t)) (fixed_request k) o s)
-    (sym c.outcome-in-Fixed-Fixed.ensures) (ap (λ q. joined (plainly q) (holds r.new.t)) (sym r.ensures.rule)) h in
-    subst₂ (λ (x : Table g.row.R.Denot g.row.S.Denot) (y : Call g.row.R.Denot g.row.S.Denot). Turn sum Steadily (state x) (request y) (came c.outcome-in-Fixed-Fixed.result) after)
+    (sym c.from-in-Fixed-Fixed.ensures) (ap (λ q. joined (plainly q) (holds r.new.t)) (sym r.ensures.rule)) h in
+    subst₂ (λ (x : Table g.row.R.Denot g.row.S.Denot) (y : Call g.row.R.Denot g.row.S.Denot). Turn sum Steadily (state x) (request y) (came c.from-in-Fixed-Fixed.result) after)
     (sym c.in-Fixed-Fixed.is-0) (sym c.in-Fixed-Fixed.is-1) there
 
 pub returns-in-Steady-Fixed : goal.returns-in-Steady-Fixed
@@ -29,8 +29,8 @@ returns-in-Steady-Fixed g c =
     let after : State (Under g.row.R.Denot g.row.S.Denot) = joined (steadily r.new.t.rule) (holds r.new.t) in
     let h = fixed_turn sum Steadily (steadily t.rule) (holds t) (holds r.new.t) k r.result r.ensures.call in
     let there = subst₂ (λ (o : Came) (s : State (Under g.row.R.Denot g.row.S.Denot)). Turn sum Steadily (joined (steadily t.rule) (holds t)) (fixed_request k) o s)
-    (sym c.outcome-in-Steady-Fixed.ensures) (ap (λ q. joined (steadily q) (holds r.new.t)) (sym r.ensures.rule)) h in
-    subst₂ (λ (x : Table g.row.R.Denot g.row.S.Denot) (y : Call g.row.R.Denot g.row.S.Denot). Turn sum Steadily (state x) (request y) (came c.outcome-in-Steady-Fixed.result) after)
+    (sym c.from-in-Steady-Fixed.ensures) (ap (λ q. joined (steadily q) (holds r.new.t)) (sym r.ensures.rule)) h in
+    subst₂ (λ (x : Table g.row.R.Denot g.row.S.Denot) (y : Call g.row.R.Denot g.row.S.Denot). Turn sum Steadily (state x) (request y) (came c.from-in-Steady-Fixed.result) after)
     (sym c.in-Steady-Fixed.is-0) (sym c.in-Steady-Fixed.is-1) there
 
 pub returns-in-Steady-Quick : goal.returns-in-Steady-Quick
@@ -42,6 +42,6 @@ returns-in-Steady-Quick g c =
     let after : State (Under g.row.R.Denot g.row.S.Denot) = joined (steadily r.new.t.rule) (holds r.new.t) in
     let h = quick_turn sum Steadily (steadily t.rule) (holds t) (holds r.new.t) k r.result tt r.ensures.call in
     let there = subst₂ (λ (o : Came) (s : State (Under g.row.R.Denot g.row.S.Denot)). Turn sum Steadily (joined (steadily t.rule) (holds t)) (quick_request k) o s)
-    (sym c.outcome-in-Steady-Quick.ensures) (ap (λ q. joined (steadily q) (holds r.new.t)) (sym r.ensures.rule)) h in
-    subst₂ (λ (x : Table g.row.R.Denot g.row.S.Denot) (y : Call g.row.R.Denot g.row.S.Denot). Turn sum Steadily (state x) (request y) (came c.outcome-in-Steady-Quick.result) after)
+    (sym c.from-in-Steady-Quick.ensures) (ap (λ q. joined (steadily q) (holds r.new.t)) (sym r.ensures.rule)) h in
+    subst₂ (λ (x : Table g.row.R.Denot g.row.S.Denot) (y : Call g.row.R.Denot g.row.S.Denot). Turn sum Steadily (state x) (request y) (came c.from-in-Steady-Quick.result) after)
     (sym c.in-Steady-Quick.is-0) (sym c.in-Steady-Quick.is-1) there
