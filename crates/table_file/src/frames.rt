@@ -11,6 +11,10 @@ use crate::place::Place;
 use crate::stretch::{Fields, Stretch};
 use analysis::task::Task;
 
+// The core count of a file.
+#[derive(Clone, Copy)]
+pub(crate) struct Cores(pub(crate) u32);
+
 // A frame by its kind, with as many digits as its kind asks for.
 #[derive(Clone, Copy)]
 pub(crate) enum Frame<'a> {
@@ -51,33 +55,39 @@ fn sized<'a, const N: usize>(digits: &'a [u8], line: u16) -> Result<Fields<'a, N
 }
 
 // The core count in the fields of a frame.
-pub(crate) fn cores_in(fields: Fields<2>) -> u8
-    ensures { result ≡ byte_at fields.entry.digits.now 0 }
-{
-    let [high, low] = fields.digits;
-    byte_of(*high, *low)
+impl<'a> From<Fields<'a, 2>> for Cores {
+    ghost from_gives = { λ fields cores. cores.0 ≡ byte_at fields.digits.now 0 };
+
+    fn from(fields: Fields<'a, 2>) -> Cores {
+        let [high, low] = fields.digits;
+        Cores(u32::from(byte_of(*high, *low)))
+    }
 }
 
 // The task in the fields of a frame.
-pub(crate) fn task_in(fields: Fields<12>) -> Task
-    ensures { result ≡ task_of fields.entry.digits.now }
-{
-    let [c3, c2, c1, c0, d3, d2, d1, d0, t3, t2, t1, t0] = fields.digits;
-    Task {
-        cost: word_of(byte_of(*c3, *c2), byte_of(*c1, *c0)),
-        deadline: word_of(byte_of(*d3, *d2), byte_of(*d1, *d0)),
-        period: word_of(byte_of(*t3, *t2), byte_of(*t1, *t0)),
+impl<'a> From<Fields<'a, 12>> for Task {
+    ghost from_gives = { λ fields task. task ≡ task_of fields.digits.now };
+
+    fn from(fields: Fields<'a, 12>) -> Task {
+        let [c3, c2, c1, c0, d3, d2, d1, d0, t3, t2, t1, t0] = fields.digits;
+        Task {
+            cost: word_of(byte_of(*c3, *c2), byte_of(*c1, *c0)),
+            deadline: word_of(byte_of(*d3, *d2), byte_of(*d1, *d0)),
+            period: word_of(byte_of(*t3, *t2), byte_of(*t1, *t0)),
+        }
     }
 }
 
 // The place in the fields of a frame.
-pub(crate) fn place_in(fields: Fields<6>) -> Place
-    ensures { result ≡ place_of fields.entry.digits.now }
-{
-    let [n1, n0, l3, l2, l1, l0] = fields.digits;
-    Place {
-        task: u32::from(byte_of(*n1, *n0)),
-        length: word_of(byte_of(*l3, *l2), byte_of(*l1, *l0)),
+impl<'a> From<Fields<'a, 6>> for Place {
+    ghost from_gives = { λ fields place. place ≡ place_of fields.digits.now };
+
+    fn from(fields: Fields<'a, 6>) -> Place {
+        let [n1, n0, l3, l2, l1, l0] = fields.digits;
+        Place {
+            task: u32::from(byte_of(*n1, *n0)),
+            length: word_of(byte_of(*l3, *l2), byte_of(*l1, *l0)),
+        }
     }
 }
 

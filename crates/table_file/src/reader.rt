@@ -5,7 +5,7 @@ ghost use Rattle.table_file.specs.Stored.{numbers};
 ghost use Rattle.table_file.specs.Progress.{begin, step_cores, step_task, check_place, step_place, step, finish, view, Steps};
 
 use crate::fault::{Fault, Number};
-use crate::frames::{Frame, cores_in, place_in, task_in};
+use crate::frames::{Cores, Frame};
 use crate::place::Place;
 use crate::stretch::Fields;
 use analysis::checks::is_within_limits;
@@ -60,7 +60,7 @@ impl Reader {
     fn take_cores(&mut self, fields: Fields<2>) -> Result<(), Fault>
         ensures { Steps (step_cores (view self.old) fields.entry.digits.now fields.entry.line) result self.old self.new }
     {
-        let cores = u32::from(cores_in(fields));
+        let Cores(cores) = Cores::from(fields);
         if cores < 1 || cores > MOST_CORES {
             return Err(Fault::of_line(Number::CoreCount, fields.line));
         }
@@ -75,7 +75,7 @@ impl Reader {
         if self.tasks.is_full() {
             return Err(Fault::of_line(Number::TableFull, fields.line));
         }
-        let task = task_in(fields);
+        let task = Task::from(fields);
         if !is_within_limits(&task) {
             return Err(Fault::of_line(Number::Limits, fields.line));
         }
@@ -90,7 +90,7 @@ impl Reader {
         if self.places.len() >= self.tasks.len() {
             return Err(Fault::of_line(Number::NotDue, fields.line));
         }
-        let place = place_in(fields);
+        let place = Place::from(fields);
         self.check_place(place, fields.line)?;
         self.places.push(place);
         self.phase = Phase::Places;

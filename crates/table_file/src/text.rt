@@ -5,6 +5,7 @@ ghost use Rattle.table_file.specs.Digits.{digit_text, byte_text, word_text};
 ghost use Rattle.table_file.specs.FileText.{cores_line, task_line, place_line};
 ghost use Rattle.table_file.specs.Puts.{put};
 
+use crate::frames::Cores;
 use crate::kind::Kind;
 use crate::place::Place;
 use planner::rows::Row;
@@ -26,10 +27,6 @@ pub(crate) trait Line<const N: usize> {
         requires { Fits self.now }
         ensures { result ≡ text self.now };
 }
-
-// The core count.
-#[derive(Clone, Copy)]
-pub(crate) struct Cores(pub(crate) u32);
 
 impl Line<CORES_BYTES> for Cores {
     ghost text = { λ c. cores_line c.0 };

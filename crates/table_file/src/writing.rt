@@ -7,10 +7,11 @@ ghost use Rattle.table_file.specs.Sheets.{kept};
 ghost use Rattle.table_file.specs.Puts.{paired};
 ghost use Rattle.table_file.specs.Stored.{stored, of_open, of_fixed, Valid};
 
+use crate::frames::Cores;
 use crate::place::Place;
 use crate::placing::{order_by, stretch_to};
 use crate::sheet::Sheet;
-use crate::text::{CORES_BYTES, Cores, Line, PLACE_BYTES, TASK_BYTES, put, put_all};
+use crate::text::{CORES_BYTES, Line, PLACE_BYTES, TASK_BYTES, put, put_all};
 use arrayvec::ArrayVec;
 use interference::full::Full;
 use interference::rule::Rule;
@@ -79,6 +80,7 @@ fn places_of<R: Rule>(table: &FixedTable<R>) -> ArrayVec<Place, 32>
     ensures valid { Valid (of_fixed (holds table.now)) }
 {
     let count = table.rows().len();
+    // the call fills three lent lists, which want no memory
     let mut numbers = [0; 32];
     let mut lengths = [0; 32];
     let mut bounds = [0; 32];

@@ -14,7 +14,7 @@ unwrap-requires c =
       | in-Ok w ↦ subst IsOk (sym w.answer-is)
           (file_written c.args.file.now old w.write_fixed-answer.new.text c.told-text (of_fixed (holds w.in-Ok.planned)) _ w.write_fixed-answer.ensures w.in-Ok.ensures.0)
       | in-Err w ↦ subst IsOk (sym w.answer-is)
-          (notice_written c.args.file.now old w.write_notice-answer.new.text c.told-text w.in-Err.notice _ w.write_notice-answer.ensures)
+          (notice_written c.args.file.now old w.write_notice-answer.new.text c.told-text _ _ w.write_notice-answer.ensures)
     ]
 
 pub returns : goal.returns
@@ -26,5 +26,5 @@ returns c =
       | in-Ok w ↦ subst (λ (new : List ℕ). Answered file n old new) (sym w.text-is)
           (file_answered file old w.write_fixed-answer.new.text c.told-text (of_fixed (holds w.in-Ok.planned)) _ n w.write_fixed-answer.ensures (sym w.answer-is ∙ c.unwrap.ensures) w.in-Ok.ensures.1)
       | in-Err w ↦ subst (λ (new : List ℕ). Answered file n old new) (sym w.text-is)
-          (notice_answered file old w.write_notice-answer.new.text c.told-text w.in-Err.notice _ n w.write_notice-answer.ensures (sym w.answer-is ∙ c.unwrap.ensures) w.in-Err.ensures)
+          (notice_answered file old w.write_notice-answer.new.text c.told-text _ _ n w.write_notice-answer.ensures (sym w.answer-is ∙ c.unwrap.ensures) w.in-Err.ensures)
     ]

@@ -8,9 +8,6 @@ use Rattle.table_file.specs.Reading.{read_lines}
 use Rattle.table_file.proofs.Onward.{to_file, line_fault, frame_fault, step_fault, step_goes, read_done}
 use Rattle.table_file.proofs.reading.read_frames.Goals as goal
 
-pub loop-lines-init : goal.loop-lines-init
-loop-lines-init c = ap (λ st. read_lines 1 st (lines_of c.args.bytes.now)) c.new-reader.ensures
-
 pub returns-in_err-line : goal.returns-in_err-line
 returns-in_err-line c =
     let p = err_from_is_err_and c.from_residual.result c.from_residual.ensures.1 in

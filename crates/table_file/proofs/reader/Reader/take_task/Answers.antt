@@ -12,7 +12,7 @@ returns-then-is_full c =
 pub returns-then-not-is_within_limits : goal.returns-then-not-is_within_limits
 returns-then-not-is_within_limits c =
     let room = eqb-false _ _ (sym c.if-is_full.ensures.value) in (
-      task_refused (view c.args.self.now) c.args.fields.digits.now c.args.fields.line (omega (arith, c.if-is_full.ensures.fits)) c.task_in-task.result c.task_in-task.ensures
+      task_refused (view c.args.self.now) c.args.fields.digits.now c.args.fields.line (omega (arith, c.if-is_full.ensures.fits)) c.from-task.result c.from-task.ensures
           c.if-not-is_within_limits.ensures
           ∙ ap Err (sym c.of_line-then-not-is_within_limits.ensures),
       refl,
