@@ -10,7 +10,7 @@ use interference::rule::Rule;
 use interference::steady::SteadyRule;
 
 // The least lengths with which all tasks pass in this order, by task number, and 1 past the last task. None where no
-// choice of lengths passes.
+// choice of lengths passes. They are an array since all memory is fixed, and what it holds past the last task is promised.
 pub fn seek_lengths<R: Rule>(rule: &R, tasks: &Ordered) -> Option<[u32; 32]>
     ensures { MatchOption result (NoOrderedLengths (R.Rule.meaning rule.now) tasks.now) (OrderedLengths (R.Rule.meaning rule.now) tasks.now) }
 {
