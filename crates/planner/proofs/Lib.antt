@@ -6,7 +6,6 @@ pub mod OnTables
 pub mod Upward
 pub mod OnLists
 pub mod Entries
-pub mod OnTurns
 pub mod OnRuns
 pub mod OneAnswer
 pub mod OneOutcome

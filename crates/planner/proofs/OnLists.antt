@@ -1,8 +1,8 @@
 -- Lists that are written from the front, as the places stand.
 use Rattle.std.proofs.Common.{◌≡◌, ℕ, suc, ◌+◌, ◌-◌, ◌<◌, ◌≤◌, List, [], ◌∷◌, ◌++◌, map, reverse, length, get_or, take, drop, set, sym, refl, ap, ◌∙◌, arith, length-take-le}
-use Rattle.std.proofs.lemmas.List.{take_more, drop_more, append_assoc, set_at, take_all, length-map, length-reverse, get_or-map, get_or-reverse, reverse-append}
+use Rattle.std.proofs.lemmas.List.{take_more, drop_more, append_assoc, set_at, length-map, length-reverse, get_or-map, get_or-reverse, reverse-append}
 use Rattle.planner.specs.Calls.{upward}
-use Rattle.planner.specs.Reading.{over, standing}
+use Rattle.planner.specs.Reading.{standing}
 
 -- the first i of xs over old
 abbrev pub partly : List ℕ → ℕ → List ℕ → List ℕ
@@ -13,9 +13,6 @@ partly_more xs old i x h k e =
     ap (λ l. set (take i xs ++ l) i x) (drop_more old i 0 k)
     ∙ set_at (take i xs) (get_or old i 0) (drop (i + 1) old) x i (length-take-le i xs (omega arith))
     ∙ sym (ap (λ l. l ++ drop (i + 1) old) (take_more xs i 0 h ∙ ap (λ y. take i xs ++ y ∷ []) (sym e)) ∙ append_assoc (take i xs) (x ∷ []) (drop (i + 1) old))
-
-partly_all : (xs old : List ℕ) (n : ℕ) → n ≡ length xs → partly xs n old ≡ over xs old
-partly_all xs old n e = ap (λ m. take m xs ++ drop m old) e ∙ ap (λ l. l ++ drop (length xs) old) (take_all (length xs) xs (omega arith))
 
 -- what f gives of the tasks as they stand, over a list that was old
 module _ (f : ℕ → ℕ) (q old was : List ℕ) where
@@ -28,12 +25,6 @@ module _ (f : ℕ → ℕ) (q old was : List ℕ) where
       ap (λ l. set l p x) e
       ∙ partly_more (map f (reverse q)) old p x (omega (arith, column_length)) (omega arith)
       (g ∙ ap f (sym (get_or-reverse q p 0 h)) ∙ sym (get_or-map f (reverse q) p 0 0 (omega (arith, length-reverse q))))
-
-  pub column_all : (p : ℕ) → p ≡ length q → was ≡ partly (map f (reverse q)) p old → was ≡ over (map f (reverse q)) old
-  column_all p h e = e ∙ partly_all (map f (reverse q)) old p (h ∙ sym column_length)
-
-pub length_standing : (q : List ℕ) → length (standing q) ≡ length q
-length_standing q = length-map (reverse q) (λ k. k + 1) ∙ length-reverse q
 
 -- an order as it was given, if it names no task by 0
 pub standing_upward : (xs : List ℕ) → ((p : ℕ) → p < length xs → 1 ≤ get_or xs p 0) → standing (upward xs) ≡ xs

@@ -2,11 +2,11 @@
 use Rattle.std.proofs.Common.{◌≡◌, ℕ, ◌-◌, ◌<◌, List, [], ◌∷◌, ◌++◌, length, get_or, take, drop, set, replicate, sym, ap, ◌∙◌, subst, arith}
 use Rattle.std.specs.List.{AllByRecursion}
 use Rattle.std.proofs.ByRecursion.{All-get_or, All-from_get_or, All-append, All-push, All-set, All-take, All-drop}
-use Rattle.std.proofs.lemmas.List.{map-append, take-map, drop-map, map_push, get_or-map, get_or-replicate}
+use Rattle.std.proofs.lemmas.List.{map-append, take-map, drop-map, get_or-map, get_or-replicate}
 use Rattle.analysis.specs.declared.task.Task.{Task}
 use Rattle.analysis.specs.Rivals.{TaskWithinLimits, TasksWithinLimits, no_task}
 use Rattle.planner.specs.declared.tables.rows.Row.{Row}
-use Rattle.planner.specs.Rows.{tasks, lengths, bounds, no_row, Unset, Fresh}
+use Rattle.planner.specs.Rows.{tasks, lengths, bounds, no_row, Fresh}
 use Rattle.planner.specs.Calls.{with_cost, task_numbered}
 
 each : (ts : List Task) → TasksWithinLimits ts → AllByRecursion TaskWithinLimits ts
@@ -24,9 +24,6 @@ within_removed ts i j v =
 
 pub within_set : (ts : List Task) (i : ℕ) (t : Task) → TasksWithinLimits ts → TaskWithinLimits t → TasksWithinLimits (set ts i t)
 within_set ts i t v w = places (set ts i t) (All-set TaskWithinLimits ts i t w (each ts v))
-
-pub tasks_push : (xs ys : List Row) (r : Row) → ys ≡ xs ++ r ∷ [] → tasks ys ≡ tasks xs ++ r.task ∷ []
-tasks_push xs ys r e = ap tasks e ∙ map_push (λ x. x.task) xs r
 
 pub tasks_removed : (rs : List Row) (n m : ℕ) → tasks (take n rs ++ drop m rs) ≡ take n (tasks rs) ++ drop m (tasks rs)
 tasks_removed rs n m =
@@ -49,26 +46,6 @@ numbered_task xs i n r e l h = ap (λ k. get_or (tasks xs) k no_task) (sym e) �
 pub amended_task : (xs : List Row) (i n c : ℕ) (lent new : Row) → i ≡ n - 1 → i < length xs → lent ≡ get_or xs i lent → new.task ≡ with_cost lent.task c
     → new.task ≡ with_cost (task_numbered (tasks xs) n) c
 amended_task xs i n c lent new e l h k = k ∙ ap (λ t. with_cost t c) (sym (numbered_task xs i n lent e l h))
-
--- fresh rows stay fresh
-fresh_each : (rs : List Row) → Fresh rs → AllByRecursion Unset rs
-fresh_each rs f = All-from_get_or Unset rs no_row f
-
-each_fresh : (rs : List Row) → AllByRecursion Unset rs → Fresh rs
-each_fresh rs a i l = All-get_or Unset rs i no_row l a
-
-pub fresh_push : (rs new : List Row) (r : Row) → new ≡ rs ++ r ∷ [] → Unset r → Fresh rs → Fresh new
-fresh_push rs new r e u f = subst (λ (l : List Row). Fresh l) (sym e) (each_fresh (rs ++ r ∷ []) (All-push Unset rs r (fresh_each rs f) u))
-
-pub fresh_removed : (rs new : List Row) (i j : ℕ) → new ≡ take i rs ++ drop j rs → Fresh rs → Fresh new
-fresh_removed rs new i j e f =
-    subst (λ (l : List Row). Fresh l) (sym e) (each_fresh (take i rs ++ drop j rs) (All-append Unset (take i rs) (drop j rs) (All-take Unset i rs (fresh_each rs f)) (All-drop Unset j rs (fresh_each rs f))))
-
--- a row that was lent, and given back with its length and bound
-pub fresh_set : (rs : List Row) (i : ℕ) (old new : Row) → i < length rs → old ≡ get_or rs i old → new.length ≡ old.length → new.bound ≡ old.bound → Fresh rs → Fresh (set rs i new)
-fresh_set rs i old new l e a b f =
-    let u = subst Unset (sym e) (All-get_or Unset rs i old l (fresh_each rs f)) in
-    each_fresh (set rs i new) (All-set Unset rs i new (a ∙ u.0, b ∙ u.1) (fresh_each rs f))
 
 pub fresh_written : (rs : List Row) (n : ℕ) → length rs ≡ n → lengths rs ≡ replicate n 1 → bounds rs ≡ replicate n 0 → Fresh rs
 fresh_written rs n k ls bs i h = (

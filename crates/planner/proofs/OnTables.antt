@@ -1,7 +1,5 @@
 -- What a fixed table holds, known by other names.
-use Rattle.std.proofs.Common.{◌≡◌, ℕ, ◌-◌, ◌<◌, ◌≤◌, Bool, List, length, get_or, take, set, sym, ap, ◌∙◌, subst, ⊎_elim, arith}
-use Rattle.std.proofs.lemmas.List.{get_or-set_same, get_or-set_other}
-use Rattle.std.proofs.lemmas.Bool.{cases_eq}
+use Rattle.std.proofs.Common.{◌≡◌, ℕ, Bool, List, sym, subst}
 use Rattle.analysis.specs.declared.task.Task.{Task}
 use Rattle.analysis.specs.Rivals.{cost_of}
 use Rattle.analysis.specs.Plans.{Named, IsChoice}
@@ -17,19 +15,6 @@ named_as q r n m a b h = subst (λ (x : ℕ). Named x r) (sym b) (subst (λ (x :
 pub fixed_as : {m m' : ℕ} {ts ts' : List Task} {q q' ls ls' bs bs' : List ℕ} (p b : Bool) → m' ≡ m → ts' ≡ ts → q' ≡ q → ls' ≡ ls → bs' ≡ bs
     → fixed m' ts' q' ls' bs' p b ≡ fixed m ts q ls bs p b
 fixed_as p b c d e f g = (λ i. fixed (c i) (d i) (e i) (f i) (g i) p b)
-
--- one length changed to another that fits
-pub choice_set : (ts : List Task) (n : ℕ) (ls : List ℕ) (i f : ℕ) → i < length ls → 1 ≤ f → f ≤ cost_of ts i → IsChoice (cost_of ts) n ls → IsChoice (cost_of ts) n (set ls i f)
-choice_set ts n ls i f inside a b h k l =
-    ⊎_elim
-    (λ e. let s : get_or (set ls i f) k 0 ≡ f = ap (λ j. get_or (set ls i f) j 0) e ∙ get_or-set_same ls i f 0 inside in
-    (omega arith, subst (λ j. get_or (set ls i f) k 0 ≤ cost_of ts j) (sym e) (omega arith)))
-    (λ e. let s = get_or-set_other ls i k f 0 e in let o = h k l in (omega arith, omega arith))
-    (cases_eq k i)
-
--- the first entries of an array, as the code takes them
-pub read_part : {X : Type 0} (k n : ℕ) (xs : List X) {ys : List X} → k ≡ n → take n xs ≡ ys → take (k - 0) xs ≡ ys
-read_part k n xs e h = let z : k - 0 ≡ n = omega arith in rw z h
 
 -- what was shown of tasks in an order, of those that a table holds
 pub ordered_as : (P : ℕ → List Task → List ℕ → Type 0) {m m' : ℕ} {ts ts' : List Task} {q q' : List ℕ} → m ≡ m' → ts ≡ ts' → q ≡ q' → P m ts q → P m' ts' q'

@@ -1,6 +1,6 @@
 -- Rows that are written one after the other.
 use Rattle.std.proofs.Common.{◌≡◌, ℕ, zero, suc, ◌+◌, ◌<◌, ◌≤◌, List, [], ◌∷◌, ◌++◌, map, length, get_or, take, set, replicate, sym, refl, ap, ◌∙◌, arith}
-use Rattle.std.proofs.lemmas.List.{take_more, take_more_set, map_push, map-set, set-get_or, get_or-map, take_all}
+use Rattle.std.proofs.lemmas.List.{take_more, take_more_set, map_push, map-set, set-get_or, get_or-map}
 use Rattle.analysis.specs.Rivals.{no_task}
 use Rattle.planner.specs.declared.tables.rows.Row.{Row}
 
@@ -16,9 +16,6 @@ pub part_more : {X : Type 0} (p : Row → X) (xs : List Row) (found : List X) (i
     → map p (take i xs) ≡ take i found → map p (take (i + 1) (set xs i r)) ≡ take (i + 1) found
 part_more p xs found i r d l k e h =
     ap (map p) (take_more_set xs i r l) ∙ map_push p (take i xs) r ∙ (λ j. h j ++ e j ∷ []) ∙ sym (take_more found i d k)
-
-pub part_all : {X : Type 0} (p : Row → X) (xs : List Row) (found : List X) (i n : ℕ) → length xs ≤ i → i ≡ n → map p (take i xs) ≡ take i found → map p xs ≡ take n found
-part_all p xs found i n l e h = ap (map p) (sym (take_all i xs l)) ∙ h ∙ ap (λ k. take k found) e
 
 pub take_replicate : {X : Type 0} (n m : ℕ) (x : X) → n ≤ m → take n (replicate m x) ≡ replicate n x
 take_replicate zero m x h = refl

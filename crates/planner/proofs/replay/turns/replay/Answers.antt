@@ -1,4 +1,4 @@
-use Rattle.std.proofs.Common.{◌≡◌, ◌+◌, List, map, length, take, vec_items, sym, refl, ap, ◌∙◌, subst, arith, length-drop}
+use Rattle.std.proofs.Common.{◌≡◌, ◌+◌, List, map, take, vec_items, sym, refl, subst}
 use Rattle.std.specs.Vec.Iter.{into_iter_items}
 use Rattle.planner.specs.declared.replay.Call.{Call}
 use Rattle.planner.specs.declared.replay.Report.{Report}
@@ -6,14 +6,10 @@ use Rattle.planner.specs.Tables.{held}
 use Rattle.planner.specs.History.{still}
 use Rattle.planner.specs.Replaying.{sum_under, Steadily, request, state}
 use Rattle.planner.specs.Reporting.{Run}
-use Rattle.planner.proofs.OnRuns.{Reached, start, onward, ended}
+use Rattle.planner.proofs.OnRuns.{Reached, onward, ended}
 use Rattle.planner.proofs.OnPromises.{keeps}
 use Rattle.planner.proofs.replay.turns.replay.Goals.{else-calls-test, then-calls-test+in_default}
 use Rattle.planner.proofs.replay.turns.replay.Goals as goal
-
-pub calls-init : goal.calls-init
-calls-init g c =
-    start (sum_under g.R.Rule.meaning g.S.Rule.meaning) Steadily request (still (held c.args.table)) (into_iter_items c.into_iter-rest.result) c.args.reports.now
 
 pub calls-preserved : goal.calls-preserved
 calls-preserved g c =
@@ -27,21 +23,12 @@ calls-preserved g c =
     (into_iter_items c.calls.rest) (into_iter_items c.next.new.self) c.calls.reports
     c.calls.invariant c.carry_out-table.ensures.inside c.in-Some.ensures.cases.0 t.2 refl t.3)
 
-pub returns : goal.returns
-returns g c =
+pub returns-clause-promises : goal.returns-clause-promises
+returns-clause-promises g c =
     let n = c.calls.n in
     let all = into_iter_items c.into_iter-rest.result in
     let e : all ≡ vec_items c.args.calls = c.into_iter-rest.ensures.rest in
-    let cut = ap length c.calls.invariant.left_is ∙ length-drop n all in
-    let same = ap length e in
     let sum = sum_under g.R.Rule.meaning g.S.Rule.meaning in
-    record {
-      count = elim c.calls-test.branch [
-        | else-calls-test w ↦ omega (arith, w.calls-test.false, c.calls.invariant.within, c.calls.invariant.room)
-        | then-calls-test+in_default w ↦ omega (arith, w.in_default.ensures.cases.0, c.calls.invariant.within, c.calls.invariant.room)
-      ];
-      promises = keeps sum Steadily (held c.args.table) (map request (take n (vec_items c.args.calls))) (take n c.calls.reports) (state c.calls.table)
-          (subst (λ (cs : List (Call g.row.R.Denot g.row.S.Denot)). Run sum Steadily (still (held c.args.table)) (map request (take n cs)) (take n c.calls.reports) (state c.calls.table)) e
-          (ended sum Steadily request (still (held c.args.table)) all c.args.reports.now n (state c.calls.table) (into_iter_items c.calls.rest) c.calls.reports c.calls.invariant));
-      rest = c.calls.invariant.kept;
-    }
+    keeps sum Steadily (held c.args.table) (map request (take n (vec_items c.args.calls))) (take n c.calls.reports) (state c.calls.table)
+    (subst (λ (cs : List (Call g.row.R.Denot g.row.S.Denot)). Run sum Steadily (still (held c.args.table)) (map request (take n cs)) (take n c.calls.reports) (state c.calls.table)) e
+    (ended sum Steadily request (still (held c.args.table)) all c.args.reports.now n (state c.calls.table) (into_iter_items c.calls.rest) c.calls.reports c.calls.invariant))

@@ -1,6 +1,6 @@
 use Rattle.std.proofs.Common.{◌<◌, ◌≡◌, length, get_or, refl, ◌∙◌, arith, rules}
 use Rattle.planner.specs.declared.tables.rows.Row.{Row}
-use Rattle.planner.proofs.OnWrites.{blank, part_kept, part_more, part_all}
+use Rattle.planner.proofs.OnWrites.{blank, part_kept, part_more}
 use Rattle.planner.proofs.tables.writing.write.Goals as goal
 
 pub loop-i-preserved : goal.loop-i-preserved
@@ -18,14 +18,3 @@ loop-i-preserved c =
       part_more (λ x. x.length) xs found i r 0 inside (omega arith) refl v.1,
       part_more (λ x. x.bound) xs solved i r 0 inside (omega arith) refl v.2,
     )
-
-pub returns : goal.returns
-returns c =
-    let xs = c.loop-i.rows in
-    let i = c.loop-i.i in
-    let v = c.loop-i.invariant in
-    record {
-      tasks = v.0;
-      lengths = part_all (λ x. x.length) xs c.args.found.now i (length c.args.rows.now) (omega arith) (omega arith) v.1;
-      bounds = part_all (λ x. x.bound) xs c.args.solved.now i (length c.args.rows.now) (omega arith) (omega arith) v.2;
-    }

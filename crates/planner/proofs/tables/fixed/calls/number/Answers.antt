@@ -1,13 +1,7 @@
 use Rattle.std.proofs.Common.{◌-◌, ◌++◌, vec_items, ap, ◌∙◌, arith}
-use Rattle.std.proofs.lemmas.List.{nil_from_length}
 use Rattle.planner.specs.Tables.{downward}
 use Rattle.planner.proofs.Downward.{downward_more}
 use Rattle.planner.proofs.tables.fixed.calls.number.Goals as goal
-
-pub loop-i-init : goal.loop-i-init
-loop-i-init c =
-    let xs = vec_items c.args.order.now in
-    (ap (λ l. l ++ downward c.args.count) (nil_from_length xs (omega (arith, c.requires.empty, c.args.order.now.ok.0))), omega arith, c.requires.room.1)
 
 pub loop-i-preserved : goal.loop-i-preserved
 loop-i-preserved c =

@@ -1,8 +1,8 @@
-use Rattle.std.proofs.Common.{◌≡◌, ◌+◌, ◌-◌, ◌<◌, length, get_or, sym, refl, arith}
+use Rattle.std.proofs.Common.{◌+◌, ◌-◌, ◌<◌, length, get_or, sym, refl, arith}
 use Rattle.std.proofs.lemmas.List.{get_or-map}
 use Rattle.planner.specs.Rows.{lengths, bounds}
 use Rattle.planner.proofs.OnWrites.{blank}
-use Rattle.planner.proofs.OnLists.{column_more, column_all}
+use Rattle.planner.proofs.OnLists.{column_more}
 use Rattle.planner.proofs.tables.fixed.reading.write_places.Goals as goal
 
 pub loop-p-preserved : goal.loop-p-preserved
@@ -18,16 +18,3 @@ loop-p-preserved c =
       column_more (λ j. get_or (lengths rows) j 0) q c.args.lengths.now c.loop-p.lengths p _ here (omega arith) v.1 (sym (get_or-map (λ r. r.length) rows k blank 0 inside)),
       column_more (λ j. get_or (bounds rows) j 0) q c.args.bounds.now c.loop-p.bounds p _ here (omega arith) v.2 (sym (get_or-map (λ r. r.bound) rows k blank 0 inside)),
     )
-
-pub returns : goal.returns
-returns c =
-    let q = c.args.order.now in
-    let rows = c.args.rows.now in
-    let p = c.loop-p.p in
-    let v = c.loop-p.invariant in
-    let all : p ≡ length q = omega arith in
-    record {
-      tasks = column_all (λ j. j + 1) q c.args.tasks.now c.loop-p.tasks p all v.0;
-      lengths = column_all (λ j. get_or (lengths rows) j 0) q c.args.lengths.now c.loop-p.lengths p all v.1;
-      bounds = column_all (λ j. get_or (bounds rows) j 0) q c.args.bounds.now c.loop-p.bounds p all v.2;
-    }

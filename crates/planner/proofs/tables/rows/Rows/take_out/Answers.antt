@@ -1,8 +1,7 @@
 use Rattle.std.proofs.Common.{◌≡◌, suc, ◌-◌, ◌++◌, take, drop, ap, ◌∙◌, arith}
-use Rattle.std.proofs.lemmas.List.{length-map}
 use Rattle.planner.specs.Rows.{tasks}
 use Rattle.planner.specs.Tables.{opened}
-use Rattle.planner.proofs.OnRows.{fresh_removed, within_removed, within_as, tasks_removed}
+use Rattle.planner.proofs.OnRows.{within_removed, within_as, tasks_removed}
 use Rattle.planner.proofs.tables.rows.Rows.take_out.Goals as goal
 
 pub invariant_of-self : goal.invariant_of-self
@@ -19,17 +18,10 @@ invariant_of-self c =
       limits = within_as _ _ (ap tasks w.items ∙ tasks_removed xs i (suc i)) (within_removed (tasks xs) i (suc i) s.limits);
     }
 
-pub returns : goal.returns
-returns c =
+pub returns-clause-keeps : goal.returns-clause-keeps
+returns-clause-keeps c =
     let s = c.args.self.now in
     let xs = s.items.items in
     let n = c.args.number in
     let high : suc (n - 1) ≡ n = omega (arith, c.requires.0) in
-    let e = c.remove.ensures.items in
-    record {
-      keeps = ap (opened s.cores) (ap tasks c.remove.ensures.items ∙ tasks_removed xs (n - 1) (suc (n - 1)) ∙ ap (λ m. take (n - 1) (tasks xs) ++ drop m (tasks xs)) high);
-      fresh = fresh_removed xs _ (n - 1) (suc (n - 1)) e;
-    }
-
-pub remove-requires : goal.remove-requires
-remove-requires c = let s = c.args.self.now in omega (arith, c.requires, length-map s.items.items (λ r. r.task), s.items.ok.0)
+    ap (opened s.cores) (ap tasks c.remove.ensures.items ∙ tasks_removed xs (n - 1) (suc (n - 1)) ∙ ap (λ m. take (n - 1) (tasks xs) ++ drop m (tasks xs)) high)
