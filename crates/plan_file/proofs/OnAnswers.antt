@@ -1,6 +1,6 @@
 -- What planning a table gives, as the answer to its file.
-use Rattle.std.proofs.Common.{◌≡◌, ℕ, ◌+◌, ◌*◌, ◌≤◌, List, length, Ok, Err, Result, MatchResult, sym, refl, ap, ◌∙◌, subst, ⊎_elim, arith}
-use Rattle.std.specs.Result.{IsOk, IsErrAnd}
+use Rattle.std.proofs.Common.{◌≡◌, ℕ, ◌+◌, ◌*◌, ◌≤◌, List, length, Ok, Err, Result, MatchResult, sym, ap, ◌∙◌, subst, ⊎_elim, arith}
+use Rattle.std.specs.Result.{IsErrAnd}
 use Rattle.interference.specs.declared.full.Full.{Full}
 use Rattle.planner.specs.declared.refusal.Refusal.{Refusal}
 use Rattle.planner.specs.declared.tables.fixed.FixedTable.{FixedTable}
@@ -59,15 +59,7 @@ answered file old new bytes n k is a count text =
     let same : k ≡ n = cc in
     record { bytes = bytes; answer = a; only = (λ other b. one_answer (read_file file) other bytes b a); count = sym same ∙ count; text = text }
 
-module _ (file old new : List ℕ) (roomy : length old ≡ 1024) where
-  pub file_written : (s : Stored) (r : Result ℕ Refusal) → Writes s r old new → length (file_text s) ≤ 1024 → IsOk r
-  file_written s (Ok n) h fits = refl
-  file_written s (Err e) h fits = absurd (omega (arith, h.short, fits))
-
-  pub notice_written : (n : Notice) (r : Result ℕ Refusal) → WritesBytes (notice_line n) r old new → IsOk r
-  notice_written n (Ok k) h = refl
-  notice_written n (Err e) h = absurd (omega (arith, h.0))
-
+module _ (file old new : List ℕ) where
   pub file_answered : (s : Stored) (r : Result ℕ Refusal) (n : ℕ) → Writes s r old new → r ≡ Ok n → FileAnswer (read_file file) (file_text s) → Answered file n old new
   file_answered s (Ok k) n h is a = answered file old new (file_text s) n k is a h.count h.text
   file_answered s (Err e) n h is a = absurd (cc)

@@ -21,12 +21,11 @@ use table_file::writing::write_fixed;
 pub fn plan_file(file: &[u8], desk: Desk, text: &mut [u8; 1024]) -> usize
     ensures { Answered file.now result text.old text.new }
 {
-    let answer = match plan_of(file, desk) {
-        Ok(planned) => write_fixed(&planned, text),
-        Err(notice) => write_notice(notice, text),
-    };
     // There is room for the file of eight tasks with their places, and for a notice.
-    answer.unwrap()
+    match plan_of(file, desk) {
+        Ok(planned) => write_fixed(&planned, text).unwrap(),
+        Err(notice) => write_notice(notice, text).unwrap(),
+    }
 }
 
 // The planned table of a file, or the notice that there is in its place.
