@@ -52,11 +52,8 @@ fn write(rows: &mut [Row], found: &[u32; 32], solved: &[u32; 32])
     ensures lengths { lengths rows.new ≡ take (length rows.old) found.now }
     ensures bounds { bounds rows.new ≡ take (length rows.old) solved.now }
 {
-    for i in 0..rows.len() {
-        rows[i] = Row {
-            task: rows[i].task,
-            length: found[i],
-            bound: solved[i],
-        };
+    for (i, row) in rows.iter_mut().enumerate() {
+        row.length = found[i];
+        row.bound = solved[i];
     }
 }

@@ -128,14 +128,11 @@ fn from_below(places: &[u32], count: usize) -> Option<[usize; 32]>
     if places.len() != count {
         return None;
     }
-    let mut fresh = [0usize; 32];
-    for p in 0..count {
-        let number = places[count - 1 - p];
-        if number < 1 {
-            return None;
-        }
-        fresh[p] = number as usize - 1;
+    let mut fresh = [0; 32];
+    for (i, number) in places.iter().enumerate() {
+        fresh[i] = number.checked_sub(1)? as usize;
     }
+    fresh[..count].reverse();
     if is_order(count, &fresh[0..count]) {
         Some(fresh)
     } else {
