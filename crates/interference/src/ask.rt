@@ -6,6 +6,7 @@ use crate::rival::Rival;
 use crate::rule::Rule;
 
 // Puts the question with these parts to a rule: its sum, or nothing where a limit on questions does not hold.
+// The parts come one by one: a struct of them would be the question again, but unchecked.
 pub fn ask<'a, R: Rule>(
     rule: &R,
     cores: u32,

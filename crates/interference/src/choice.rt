@@ -4,7 +4,8 @@ ghost use Rattle.interference.specs.declared.choice.Choice.TheVariants.{First, S
 use crate::question::Question;
 use crate::rule::Rule;
 
-// One of two rules, so that rules of several types can serve where one type is asked for.
+// One of two rules, so that rules of several types can serve where one type is asked for. It is no `Result`: neither
+// rule is an error.
 #[derive(Clone, Copy, Drop)]
 pub enum Choice<A, B> {
     First(A),

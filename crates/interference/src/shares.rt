@@ -1,4 +1,4 @@
-ghost use Rattle.std.specs.Prelude.{◌≡◌, ℕ, ◌+◌, ◌-◌, ◌≤◌, length, sum_by};
+ghost use Rattle.std.specs.Prelude.{◌≡◌, ℕ, ◌+◌, ◌-◌, ◌≤◌, length, sum_by, min};
 ghost use Rattle.interference.specs.declared.rival.Rival.{Rival as Other};
 ghost use Rattle.interference.specs.Questions.{Query, RivalWithinLimits, RivalsWithinLimits};
 ghost use Rattle.interference.specs.Shares.{workload, share_cap, carry_in_share, plain_share, handler_share};
@@ -25,7 +25,7 @@ impl Share for CarryIn {
     ghost share = { carry_in_share };
 
     fn of(&self, q: &Question, r: &Rival) -> u32 {
-        work(r.cost, r.period, q.window + r.finish - r.cost).min(cap(q))
+        capped(q, r.cost, r.period, q.window + r.finish - r.cost)
     }
 }
 
@@ -36,7 +36,7 @@ impl Share for Plain {
     ghost share = { plain_share };
 
     fn of(&self, q: &Question, r: &Rival) -> u32 {
-        work(r.cost, r.period, q.window).min(cap(q))
+        capped(q, r.cost, r.period, q.window)
     }
 }
 
@@ -47,6 +47,7 @@ pub(crate) fn total<S: Share>(share: &S, q: &Question, rivals: &[Rival]) -> u32
     ensures total { result ≡ sum_by (S.Share.share (query q.now)) rivals.now }
     ensures fits { result ≤ 2031585 }
 {
+    // as a chain of `map` and `sum` its proof did not close, since the share is a parameter
     let mut sum = 0;
     for r in rivals {
         sum += share.of(q, r);
@@ -57,7 +58,15 @@ pub(crate) fn total<S: Share>(share: &S, q: &Question, rivals: &[Rival]) -> u32
 pub(crate) fn handler(q: &Question, i: Interrupt) -> u32
     ensures { result ≡ handler_share i.cost i.gap (query q.now) }
 {
-    work(i.cost, i.gap, q.window).min(cap(q))
+    capped(q, i.cost, i.gap, q.window)
+}
+
+// The workload, but no more than the cap of shares.
+fn capped(q: &Question, cost: u32, period: u32, ticks: u32) -> u32
+    requires { (cost ≤ period) × (1 ≤ period) }
+    ensures { result ≡ min (workload cost period ticks) (share_cap (query q.now)) }
+{
+    work(cost, period, ticks).min(cap(q))
 }
 
 // The most that a task of this cost and period executes in so many ticks.

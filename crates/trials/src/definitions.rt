@@ -1,9 +1,9 @@
-use crate::plain_sums::plain_sum;
+use crate::plain_sums::{Parts, plain_sum};
 use crate::setting::Setting;
 use crate::subject::Trial;
 use crate::tally::Checks;
 use analysis::task::Task;
-use interference::question::Question;
+use interference::ask::ask;
 use interference::rule::Rule;
 use std::io;
 
@@ -43,27 +43,30 @@ impl<'a, R: Rule> Trial<'a, R> {
         window: u32,
         sums: &mut Checks,
     ) -> io::Result<u32> {
-        let cores = self.table.cores;
         let rivals = s.rivals(self.rt.alloc(), k)?;
         let demand = t.cost.saturating_sub(s.early(k));
-        let region = s.early(k).saturating_add(1);
-        match Question::check(cores, window, demand, region, &rivals.upper, &rivals.lower) {
-            Some(q) => {
-                let sum = self.compared(&q, sums)?;
-                Ok(demand.saturating_add(sum / cores.max(1)))
-            }
-            // a question outside the limits counts as a difference
-            None => {
-                let _ = sums.count(false);
-                Ok(u32::MAX)
-            }
+        let q = Parts {
+            cores: self.table.cores,
+            window,
+            demand,
+            region: s.early(k).saturating_add(1),
+            upper: &rivals.upper,
+            lower: &rivals.lower,
+        };
+        match self.compared(&q, sums)? {
+            Some(sum) => Ok(demand.saturating_add(sum / q.cores.max(1))),
+            None => Ok(u32::MAX),
         }
     }
 
-    // The rule's sum for a question, compared with the plain one and counted.
-    fn compared(&self, q: &Question, sums: &mut Checks) -> io::Result<u32> {
-        let sum = self.subject.rule.sum(q);
-        if sums.count(sum == plain_sum(&self.subject.meaning, q)) {
+    // The rule's sum for a question, compared with the plain one and counted. None, and counted as a difference, where
+    // the question is refused.
+    fn compared(&self, q: &Parts, sums: &mut Checks) -> io::Result<Option<u32>> {
+        let rule = &self.subject.rule;
+        let sum = ask(
+            rule, q.cores, q.window, q.demand, q.region, q.upper, q.lower,
+        );
+        if sums.count(sum == Some(plain_sum(&self.subject.meaning, q))) {
             println!(self.rt;
                 "Sum differs: window {}, demand {}, region {}",
                 q.window, q.demand, q.region

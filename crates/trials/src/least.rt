@@ -4,7 +4,7 @@ use std::alloc::Global;
 use std::io;
 
 // What trying everything leaves of the lists that hold: what it came to, and the least number in each place over all
-// of them. Nothing where there is no such list, or where these least numbers do not hold together.
+// of them. The values are `None` where there is no such list, or where these least numbers do not hold together.
 #[derive(Drop)]
 pub struct Least {
     pub outcome: Outcome,
@@ -25,7 +25,11 @@ impl Least {
         for i in 0..ranges.count() {
             let list = ranges.nth(heap, i)?;
             if holds(&list)? {
-                outcome = outcome.with_one_more(i == 0);
+                outcome = match outcome {
+                    Outcome::Nothing if i == 0 => Outcome::AtOnce,
+                    Outcome::Nothing => Outcome::Later,
+                    found => found,
+                };
                 lower(&mut values, &list);
             }
         }

@@ -23,7 +23,7 @@ use interference::interrupt::Interrupt;
 use interference::limited::Limited;
 use interference::rule::Rule;
 use interference::steady::SteadyRule;
-use plain_sums::{Bottom, Meaning};
+use plain_sums::{Bottom, Meaning, Runs};
 use searches::{Quick, Search, Seek};
 use subject::{Subject, Trial};
 use table::Table;
@@ -40,10 +40,12 @@ const HANDLER_GAP: u32 = 6;
 // All tables under one rule and one kind of search, the same tables each time. Says how many results differed.
 fn run<R: Rule, S: Search<R>>(
     rt: &HostRuntime,
+    heading: &str,
     search: &S,
     subject: &Subject<R>,
     bounds: Option<Tally>,
 ) -> io::Result<u32> {
+    println!(rt; "{heading}")?;
     let mut dice = Dice::new(SEED);
     let mut scores = Scores {
         bounds,
@@ -58,11 +60,10 @@ fn run<R: Rule, S: Search<R>>(
         };
         trial.try_lengths(search, &mut scores)?;
         trial.try_plan(search, &mut scores)?;
-        if let Some(mut tally) = scores.bounds {
+        if let Some(tally) = &mut scores.bounds {
             // the bounds of four tasks are too many to try them all
             if table.tasks.len() <= 3 {
-                trial.try_bounds(&mut scores.sums, &mut tally)?;
-                scores.bounds = Some(tally);
+                trial.try_bounds(&mut scores.sums, tally)?;
             }
         }
     }
@@ -78,12 +79,10 @@ fn run_rules<F: SteadyRule, L: Rule>(
     headings: [&str; 3],
 ) -> io::Result<u32> {
     let bounds = Some(Tally::default());
-    println!(rt; "{}", headings[0])?;
-    let first = run(rt, &Seek, full, bounds)?;
-    println!(rt; "{}", headings[1])?;
-    let second = run(rt, &Quick, full, None)?;
-    println!(rt; "{}", headings[2])?;
-    let third = run(rt, &Seek, limited, bounds)?;
+    let [seek_full, quick_full, seek_limited] = headings;
+    let first = run(rt, seek_full, &Seek, full, bounds)?;
+    let second = run(rt, quick_full, &Quick, full, None)?;
+    let third = run(rt, seek_limited, &Seek, limited, bounds)?;
     Ok(first.saturating_add(second).saturating_add(third))
 }
 
@@ -108,7 +107,10 @@ fn run_bottoms(rt: &HostRuntime) -> io::Result<u32> {
 fn run_layers(rt: &HostRuntime, interrupt: Interrupt) -> io::Result<u32> {
     let meaning = |bottom| Meaning {
         bottom,
-        handler: Some(interrupt),
+        handler: Some(Runs {
+            cost: HANDLER_COST,
+            gap: HANDLER_GAP,
+        }),
     };
     let full = Subject {
         rule: Handler {

@@ -1,5 +1,3 @@
-use interference::interrupt::Interrupt;
-use interference::question::Question;
 use interference::rival::Rival;
 
 // The two rules at the bottom of all layers.
@@ -9,35 +7,50 @@ pub enum Bottom {
     Limited,
 }
 
+// The cost of a handler, and the least gap between the starts of two of its runs.
+#[derive(Clone, Copy)]
+pub struct Runs {
+    pub cost: u32,
+    pub gap: u32,
+}
+
 // A rule as plain data: which sum it means, and the handler above it, if there is one.
 #[derive(Clone, Copy)]
 pub struct Meaning {
     pub bottom: Bottom,
-    pub handler: Option<Interrupt>,
+    pub handler: Option<Runs>,
+}
+
+// The parts of a question. It is a type of its own, so that the second way to work a sum out shares no code with what
+// is tried: a `Question` would be made by the check that is tried too.
+#[derive(Clone, Copy)]
+pub struct Parts<'a> {
+    pub cores: u32,
+    pub window: u32,
+    pub demand: u32,
+    pub region: u32,
+    pub upper: &'a [Rival],
+    pub lower: &'a [Rival],
 }
 
 // Counted tick by tick: with a release at every multiple of the period, the ticks in which the task executes if each
 // job executes at once.
 fn workload(cost: u32, period: u32, ticks: u32) -> u32 {
-    let mut executed = 0u32;
-    for x in 0..ticks {
-        if x % period.max(1) < cost {
-            executed = executed.saturating_add(1);
-        }
-    }
-    executed
+    (0..ticks)
+        .filter(|x| x % period.max(1) < cost)
+        .fold(0u32, |executed, _| executed.saturating_add(1))
 }
 
-fn capped(q: &Question, work: u32) -> u32 {
+fn capped(q: &Parts, work: u32) -> u32 {
     work.min(q.window.saturating_sub(q.demand).saturating_add(1))
 }
 
-fn carry_in(q: &Question, r: &Rival) -> u32 {
+fn carry_in(q: &Parts, r: &Rival) -> u32 {
     let ticks = q.window.saturating_add(r.finish).saturating_sub(r.cost);
     capped(q, workload(r.cost, r.period, ticks))
 }
 
-fn plain(q: &Question, r: &Rival) -> u32 {
+fn plain(q: &Parts, r: &Rival) -> u32 {
     capped(q, workload(r.cost, r.period, q.window))
 }
 
@@ -45,16 +58,14 @@ fn plain(q: &Question, r: &Rival) -> u32 {
 fn total<F: Fn(&Rival) -> u32>(rivals: &[Rival], share: F) -> u32
     requires { F.IsAlwaysCallable share }
 {
-    let mut sum = 0u32;
-    for r in rivals {
-        sum = sum.saturating_add(share(r));
-    }
-    sum
+    rivals
+        .iter()
+        .fold(0u32, |sum, r| sum.saturating_add(share(r)))
 }
 
 // What the upper rivals of one choice carry in beyond their plain shares, the choice by the binary digits of a
 // number. Nothing where it has as many rivals as there are cores.
-fn carried_by(q: &Question, choice: u32) -> u32 {
+fn carried_by(q: &Parts, choice: u32) -> u32 {
     let mut rest = choice;
     let mut chosen = 0u32;
     let mut sum = 0u32;
@@ -69,7 +80,7 @@ fn carried_by(q: &Question, choice: u32) -> u32 {
 }
 
 // The greatest of these over all choices.
-fn carried(q: &Question) -> u32 {
+fn carried(q: &Parts) -> u32 {
     let choices = q.upper.iter().fold(1u32, |n, _| n.saturating_mul(2));
     (0..choices)
         .map(|choice| carried_by(q, choice))
@@ -78,7 +89,7 @@ fn carried(q: &Question) -> u32 {
 }
 
 // The sum that a rule means, straight from the definitions.
-pub fn plain_sum(meaning: &Meaning, q: &Question) -> u32 {
+pub fn plain_sum(meaning: &Meaning, q: &Parts) -> u32 {
     let lower = total(q.lower, |r| carry_in(q, r));
     let below = match meaning.bottom {
         Bottom::Full => total(q.upper, |r| carry_in(q, r)).saturating_add(lower),

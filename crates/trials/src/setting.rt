@@ -14,7 +14,7 @@ pub struct Setting<'a> {
 
 // The rivals of a task in higher places, and in lower ones.
 #[derive(Drop)]
-pub struct Rivals {
+pub struct Sides {
     pub upper: Vec<Rival>,
     pub lower: Vec<Rival>,
 }
@@ -37,7 +37,7 @@ impl<'a> Setting<'a> {
     }
 
     // A task in a higher place counts with its cost, and one in a lower place with what its region can block for.
-    pub fn rivals(&self, heap: Global, k: usize) -> Result<Rivals, AllocError> {
+    pub fn rivals(&self, heap: Global, k: usize) -> Result<Sides, AllocError> {
         let mut upper = Vec::new(heap);
         let mut lower = Vec::new(heap);
         for (j, t) in self.table.tasks.iter().enumerate() {
@@ -57,6 +57,6 @@ impl<'a> Setting<'a> {
                 })?;
             }
         }
-        Ok(Rivals { upper, lower })
+        Ok(Sides { upper, lower })
     }
 }

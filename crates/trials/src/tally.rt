@@ -3,27 +3,42 @@ use std::fmt;
 // So many differences of one kind are printed, and all are counted.
 const MOST_PRINTED: u32 = 3;
 
+// How many results differed.
+#[derive(Clone, Copy, Default)]
+struct Differences(u32);
+
+impl Differences {
+    // Says whether the result is to be printed.
+    fn count(&mut self, agrees: bool) -> bool {
+        if !agrees {
+            self.0 = self.0.saturating_add(1);
+        }
+        !agrees && self.0 <= MOST_PRINTED
+    }
+}
+
 // Comparisons of two numbers.
 #[derive(Clone, Copy, Default)]
 pub struct Checks {
-    pub compared: u32,
-    pub differed: u32,
+    compared: u32,
+    differed: Differences,
 }
 
 impl Checks {
     // Says whether the comparison is to be printed.
     pub fn count(&mut self, agrees: bool) -> bool {
         self.compared = self.compared.saturating_add(1);
-        if !agrees {
-            self.differed = self.differed.saturating_add(1);
-        }
-        !agrees && self.differed <= MOST_PRINTED
+        self.differed.count(agrees)
     }
 }
 
 impl fmt::Display for Checks {
     fn fmt<W: fmt::Write>(&self, f: &mut fmt::Formatter<W>) -> fmt::Result {
-        write!(f, "{} compared, {} differed", self.compared, self.differed)
+        write!(
+            f,
+            "{} compared, {} differed",
+            self.compared, self.differed.0
+        )
     }
 }
 
@@ -36,24 +51,13 @@ pub enum Outcome {
     Later,
 }
 
-impl Outcome {
-    // After one more try that holds.
-    pub fn with_one_more(self, is_first: bool) -> Outcome {
-        match self {
-            _ if is_first => Outcome::AtOnce,
-            Outcome::Nothing => Outcome::Later,
-            _ => self,
-        }
-    }
-}
-
 // Results of one kind, by what trying everything came to, and how many times a search differed from that.
 #[derive(Clone, Copy, Default)]
 pub struct Tally {
     nothing: u32,
     at_once: u32,
     later: u32,
-    differed: u32,
+    differed: Differences,
 }
 
 impl Tally {
@@ -64,10 +68,7 @@ impl Tally {
             Outcome::AtOnce => self.at_once = self.at_once.saturating_add(1),
             Outcome::Later => self.later = self.later.saturating_add(1),
         }
-        if !agrees {
-            self.differed = self.differed.saturating_add(1);
-        }
-        !agrees && self.differed <= MOST_PRINTED
+        self.differed.count(agrees)
     }
 
     fn compared(&self) -> u32 {
@@ -83,7 +84,7 @@ impl fmt::Display for Tally {
         write!(
             f,
             "{compared} compared ({} the first try, {} a later one, {} none), {} differed",
-            self.at_once, self.later, self.nothing, self.differed
+            self.at_once, self.later, self.nothing, self.differed.0
         )
     }
 }
@@ -100,13 +101,14 @@ pub struct Scores {
 impl Scores {
     pub fn differed(&self) -> u32 {
         let bounds = match self.bounds {
-            Some(tally) => tally.differed,
+            Some(tally) => tally.differed.0,
             None => 0,
         };
         self.sums
             .differed
-            .saturating_add(self.lengths.differed)
-            .saturating_add(self.plans.differed)
+            .0
+            .saturating_add(self.lengths.differed.0)
+            .saturating_add(self.plans.differed.0)
             .saturating_add(bounds)
     }
 }
