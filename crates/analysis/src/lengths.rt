@@ -37,8 +37,8 @@ pub(crate) fn length_by<R: Rule, F: Finder<R>>(
     finder.first(rule, &level.place(k, &Finishes::Limits))
 }
 
-// From the lowest place up, each task gets the first length that passes.
-fn lengths_by<R: Rule, F: Finder<R>>(finder: &F, rule: &R, tasks: &Ordered) -> Option<[u32; 32]>
+// The same with a finder of your own: from the lowest place up, each task gets the first length that passes.
+pub fn lengths_by<R: Rule, F: Finder<R>>(finder: &F, rule: &R, tasks: &Ordered) -> Option<[u32; 32]>
     ensures { MatchOption result (NoOrderedLengths (R.Rule.meaning rule.now) tasks.now) (OrderedLengths (R.Rule.meaning rule.now) tasks.now) }
 {
     let mut lengths = [1; 32];

@@ -3,7 +3,7 @@
 
 pub mod bounds;
 pub mod checks;
-mod finder;
+pub mod finder;
 pub mod four_tests;
 pub mod lengths;
 mod level;

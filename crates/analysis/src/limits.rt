@@ -1,4 +1,5 @@
 // The limits on sets of tasks.
+
 pub const MOST_TASKS: usize = 32;
 
 // few enough to search all orders of them

@@ -57,9 +57,9 @@ fn candidate<R: Rule, F: Finder<R>>(
     None
 }
 
-// Depth first, a level for each place from the lowest up. At a level without a candidate the search goes back to the
-// task after the one that was placed last.
-fn plan_by<R: Rule, F: Finder<R>>(finder: &F, rule: &R, tasks: &SmallSet) -> Option<Plan>
+// The same with a finder of your own. Depth first, a level for each place from the lowest up. At a level without a
+// candidate the search goes back to the task after the one that was placed last.
+pub fn plan_by<R: Rule, F: Finder<R>>(finder: &F, rule: &R, tasks: &SmallSet) -> Option<Plan>
     ensures { MatchOption result (NoPlanOf (R.Rule.meaning rule.now) tasks.now.set) (PlanOf (R.Rule.meaning rule.now) tasks.now.set) }
 {
     let set = tasks.set;
