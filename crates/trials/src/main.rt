@@ -16,6 +16,7 @@ mod table;
 mod tally;
 mod trial;
 
+use analysis::finder::{Finder, Halving, Trying};
 use dice::Dice;
 use interference::full::Full;
 use interference::handler::Handler;
@@ -24,7 +25,6 @@ use interference::limited::Limited;
 use interference::rule::Rule;
 use interference::steady::SteadyRule;
 use plain_sums::{Bottom, Meaning, Runs};
-use searches::{Quick, Search, Seek};
 use subject::{Subject, Trial};
 use table::Table;
 use tally::{Scores, Tally};
@@ -38,10 +38,10 @@ const HANDLER_COST: u32 = 1;
 const HANDLER_GAP: u32 = 6;
 
 // All tables under one rule and one kind of search, the same tables each time. Says how many results differed.
-fn run<R: Rule, S: Search<R>>(
+fn run<R: Rule, F: Finder<R>>(
     rt: &HostRuntime,
     heading: &str,
-    search: &S,
+    finder: &F,
     subject: &Subject<R>,
     bounds: Option<Tally>,
 ) -> io::Result<u32> {
@@ -58,8 +58,8 @@ fn run<R: Rule, S: Search<R>>(
             subject,
             table: &table,
         };
-        trial.try_lengths(search, &mut scores)?;
-        trial.try_plan(search, &mut scores)?;
+        trial.try_lengths(finder, &mut scores)?;
+        trial.try_plan(finder, &mut scores)?;
         if let Some(tally) = &mut scores.bounds {
             // the bounds of four tasks are too many to try them all
             if table.tasks.len() <= 3 {
@@ -80,9 +80,9 @@ fn run_rules<F: SteadyRule, L: Rule>(
 ) -> io::Result<u32> {
     let bounds = Some(Tally::default());
     let [seek_full, quick_full, seek_limited] = headings;
-    let first = run(rt, seek_full, &Seek, full, bounds)?;
-    let second = run(rt, quick_full, &Quick, full, None)?;
-    let third = run(rt, seek_limited, &Seek, limited, bounds)?;
+    let first = run(rt, seek_full, &Trying, full, bounds)?;
+    let second = run(rt, quick_full, &Halving, full, None)?;
+    let third = run(rt, seek_limited, &Trying, limited, bounds)?;
     Ok(first.saturating_add(second).saturating_add(third))
 }
 

@@ -2,19 +2,20 @@ use crate::exhaust::FirstPlan;
 use crate::least::is_filled;
 use crate::orders::orders;
 use crate::ranges::Ranges;
-use crate::searches::{Search, bounds, lengths, plan};
+use crate::searches::{bounds, lengths, plan};
 use crate::subject::Trial;
 use crate::tally::{Checks, Outcome, Scores, Tally};
+use analysis::finder::Finder;
 use analysis::plan::Plan;
 use interference::rule::Rule;
 use std::io;
 
 impl<'a, R: Rule> Trial<'a, R> {
     // In every order of the tasks: the least lengths.
-    pub fn try_lengths<S: Search<R>>(&self, search: &S, scores: &mut Scores) -> io::Result<()> {
+    pub fn try_lengths<F: Finder<R>>(&self, finder: &F, scores: &mut Scores) -> io::Result<()> {
         for order in orders(self.rt.alloc(), self.table.tasks.len())? {
             let least = self.least_lengths(&order, &mut scores.sums)?;
-            let agrees = match lengths(search, &self.subject.rule, self.table, &order) {
+            let agrees = match lengths(finder, &self.subject.rule, self.table, &order) {
                 Ok(found) => least.agrees(found.as_ref(), 1),
                 Err(_) => false,
             };
@@ -26,9 +27,9 @@ impl<'a, R: Rule> Trial<'a, R> {
     }
 
     // The first plan.
-    pub fn try_plan<S: Search<R>>(&self, search: &S, scores: &mut Scores) -> io::Result<()> {
+    pub fn try_plan<F: Finder<R>>(&self, finder: &F, scores: &mut Scores) -> io::Result<()> {
         let first = self.first_plan(&mut scores.sums)?;
-        let agrees = match plan(search, &self.subject.rule, self.table) {
+        let agrees = match plan(finder, &self.subject.rule, self.table) {
             Ok(found) => is_same_plan(first.as_ref(), found.as_ref()),
             Err(_) => false,
         };
