@@ -86,16 +86,13 @@ fn turn<R: Rule + Drop, S: SteadyRule + Drop>(
 fn carry_out<R: Rule + Drop, S: SteadyRule + Drop>(
     table: Table<R, S>,
     call: Call<R, S>,
-    reports: &mut [Report],
-    n: usize,
-) -> Table<R, S>
-    requires { n < length reports.old }
-    ensures inside { n < length reports.old }
-    ensures turned { (r : Report) × (reports.new ≡ slice_set reports.old n r) × Turn (sum_under R.Rule.meaning S.Rule.meaning) Steadily (state table) (request call) (came r.outcome) (state result) × Shows (state result) r }
+) -> (Table<R, S>, Report)
+    ensures turned { Turn (sum_under R.Rule.meaning S.Rule.meaning) Steadily (state table) (request call) (came result.1.outcome) (state result.0) }
+    ensures shows { Shows (state result.0) result.1 }
 {
     let (next, outcome) = turn(table, call);
-    reports[n] = report(&next, outcome);
-    next
+    let report = report(&next, outcome);
+    (next, report)
 }
 
 // Carries the calls out in their order, as many as there are places for reports, reports on each, and gives the table
@@ -109,16 +106,14 @@ pub fn replay<R: Rule + Drop, S: SteadyRule + Drop>(
     ensures promises { Promises (sum_under R.Rule.meaning S.Rule.meaning) Steadily (still (held table)) (map request (take result.0 calls.items)) (take result.0 reports.new) (state result.1) }
     ensures rest { drop result.0 reports.new ≡ drop result.0 reports.old }
 {
+    let count = calls.len().min(reports.len());
     let mut table = Table::Open(table);
     let mut rest = calls.into_iter();
-    // counted by hand: the count is a place for a report, and the answer
-    let mut n = 0;
-    'calls: while n < reports.len() {
+    'calls: for report in reports.iter_mut() {
         let Some(call) = rest.next() else {
             break 'calls;
         };
-        table = carry_out(table, call, reports, n);
-        n += 1;
+        (table, *report) = carry_out(table, call);
     }
-    (n, table)
+    (count, table)
 }
