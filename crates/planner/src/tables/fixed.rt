@@ -10,7 +10,6 @@ mod calls;
 mod plans;
 mod reading;
 mod responses;
-mod search;
 mod seeks;
 
 // A table joined with a rule: an order from the lowest place up, by task index, a length and a bound for each task,

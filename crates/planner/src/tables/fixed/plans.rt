@@ -3,10 +3,11 @@ ghost use Rattle.planner.specs.Tables.{holds};
 ghost use Rattle.planner.specs.Calls.{PlanSought};
 
 use super::FixedTable;
-use super::search::{Halving, Search, Trying};
 use crate::marks::Marks;
 use crate::refusal::Refusal;
+use analysis::finder::{Finder, Halving, Trying};
 use analysis::limits::MOST_PLANNED;
+use analysis::plan::plan_by;
 use analysis::task_set::SmallSet;
 use interference::rule::Rule;
 use interference::steady::SteadyRule;
@@ -20,7 +21,7 @@ impl<R: Rule> FixedTable<R> {
         self.plan_by(&Trying)
     }
 
-    fn plan_by<S: Search<R>>(&mut self, search: &S) -> Result<(), Refusal>
+    fn plan_by<F: Finder<R>>(&mut self, finder: &F) -> Result<(), Refusal>
         ensures rule { self.new.rule ≡ self.old.rule }
         ensures call { PlanSought (holds self.old) (R.Rule.meaning self.old.rule) result (holds self.new) }
     {
@@ -29,7 +30,7 @@ impl<R: Rule> FixedTable<R> {
         }
         let tasks = self.rows.read_tasks();
         let set = self.rows.task_set(&tasks);
-        let Some(plan) = search.plan(&self.rule, &SmallSet { set }) else {
+        let Some(plan) = plan_by(finder, &self.rule, &SmallSet { set }) else {
             return Err(Refusal::NoPlan);
         };
         self.arrange(&plan.order, &plan.lengths, Marks::PASSED);

@@ -3,9 +3,10 @@ ghost use Rattle.planner.specs.Tables.{holds};
 ghost use Rattle.planner.specs.Calls.{LengthsSought};
 
 use super::FixedTable;
-use super::search::{Halving, Search, Trying};
 use crate::marks::Marks;
 use crate::refusal::Refusal;
+use analysis::finder::{Finder, Halving, Trying};
+use analysis::lengths::lengths_by;
 use interference::rule::Rule;
 use interference::steady::SteadyRule;
 
@@ -18,13 +19,13 @@ impl<R: Rule> FixedTable<R> {
         self.lengths_by(&Trying)
     }
 
-    fn lengths_by<S: Search<R>>(&mut self, search: &S) -> Result<(), Refusal>
+    fn lengths_by<F: Finder<R>>(&mut self, finder: &F) -> Result<(), Refusal>
         ensures rule { self.new.rule ≡ self.old.rule }
         ensures call { LengthsSought (holds self.old) (R.Rule.meaning self.old.rule) result (holds self.new) }
     {
         let tasks = self.rows.read_tasks();
         let order = self.read_order();
-        let Some(lengths) = search.lengths(&self.rule, &self.ordered(&tasks)) else {
+        let Some(lengths) = lengths_by(finder, &self.rule, &self.ordered(&tasks)) else {
             return Err(Refusal::NoLengths);
         };
         self.arrange(&order, &lengths, Marks::PASSED);

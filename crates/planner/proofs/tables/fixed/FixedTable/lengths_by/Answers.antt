@@ -15,7 +15,7 @@ returns-clause-call g c =
     let lens = c.in-Some.lengths in
     let sum = g.R.Rule.meaning s.rule in
     let o = c.ordered.ensures in
-    let h = ordered_as (λ k ts q. LeastLengths sum k ts q lens) o.cores o.tasks o.order c.in-Some.ensures in
+    let h = ordered_as (λ k ts q. LeastLengths sum k ts q lens) o.cores o.tasks o.order c.in-Some.ensures.0 in
     let wide : length lens ≡ 32 = search rules in (
       take n lens,
       omega (arith, length-take n lens, length-map s.rows.items.items (λ r. r.task), s.rows.few, s.rows.items.ok.0),

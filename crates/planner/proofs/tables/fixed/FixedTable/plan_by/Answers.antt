@@ -23,7 +23,7 @@ returns-clause-call g c =
     let sum = g.R.Rule.meaning s.rule in
     let e = c.task_set-set.ensures in
     let small : n ≤ 8 = omega (arith, c.count.ensures.value, c.if-count-gt-MOST_PLANNED.false) in
-    let h = ordered_as (λ k ts q. FirstPlan sum k ts (take (length ts) plan.order) plan.lengths) e.cores e.tasks (λ i. m.order) c.in-Some.ensures in
+    let h = ordered_as (λ k ts q. FirstPlan sum k ts (take (length ts) plan.order) plan.lengths) e.cores e.tasks (λ i. m.order) c.in-Some.ensures.0 in
     let wide : length plan.lengths ≡ 32 = search rules in (
       small,
       (
