@@ -1,12 +1,11 @@
-use Rattle.std.proofs.Common.{take, sym, ap, ◌∙◌}
-use Rattle.planner.specs.Tables.{Fixed}
+use Rattle.std.proofs.Common.{◌≡◌, length, take, ap, ◌∙◌, rules}
+use Rattle.planner.specs.Tables.{Fixed, holds}
+use Rattle.planner.specs.Calls.{upward}
 use Rattle.planner.specs.Reading.{standing}
 use Rattle.planner.proofs.OnLists.{standing_upward}
 use Rattle.planner.proofs.tables.fixed.FixedTable.order.Goals as goal
 
 pub returns-clause-stands : goal.returns-clause-stands
 returns-clause-stands g c =
-    let h = c.in-Some.ensures in
-    ap (λ (m : Fixed). standing m.order) c.arrange.ensures.holds
-    ∙ ap (λ k. standing (take k c.in-Some.fresh)) (sym c.count-count.ensures.value)
-    ∙ ap standing h.2 ∙ standing_upward c.args.places.now h.1.0
+    let e : take (length (holds c.args.self.now).tasks) c.in-Some.fresh ≡ upward c.args.places.now = search rules in
+    ap (λ (m : Fixed). standing m.order) c.arrange.ensures.holds ∙ ap standing e ∙ standing_upward c.args.places.now c.in-Some.ensures.1.0
