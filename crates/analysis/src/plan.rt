@@ -47,6 +47,7 @@ fn candidate<R: Rule, F: Finder<R>>(
         (λ p. (from ≤ p.0) × (p.0 < length level.now.set.tasks.now) × (among level.now.low.now p.0 ≡ false) × FirstAt (R.Rule.meaning rule.now) level.now p.0 p.1
         × ((y : ℕ) → from ≤ y → y < p.0 → StuckAt (R.Rule.meaning rule.now) level.now y)) }
 {
+    // tried as a chain of filter and find_map, the check did not end in 100 s
     'tasks: for x in from..level.set.tasks.len() {
         if !stands(level.low, x) {
             if let Some(f) = length_by(finder, rule, level, x) {
