@@ -13,7 +13,7 @@ use interference::rule::Rule;
 use std::mem;
 
 // The least bounds that solve the equations within the limits, by task number, and 0 past the last task. None where
-// there is no solution. They are an array since all memory is fixed, and what it holds past the last task is promised too.
+// there is no solution. They are an array since what it holds past the last task is part of the promise.
 pub fn seek_bounds<R: Rule>(rule: &R, tasks: &Arranged) -> Option<[u32; 32]>
     ensures { MatchOption result (NoSolutionIn (R.Rule.meaning rule.now) tasks.now)
         (λ bounds. LeastSolutionIn (R.Rule.meaning rule.now) tasks.now bounds × Padded (length tasks.now.ordered.set.tasks.now) 0 bounds) }

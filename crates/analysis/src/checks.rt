@@ -12,9 +12,9 @@ use interference::limits::{MOST_CORES, MOST_TICKS};
 pub fn is_task_set(cores: u32, tasks: &[Task]) -> bool
     ensures { Tells result (MakesSet cores tasks.now) }
 {
-    cores >= 1
+    tasks.len() <= MOST_TASKS
+        && cores >= 1
         && cores <= MOST_CORES
-        && tasks.len() <= MOST_TASKS
         && tasks.iter().all(is_within_limits)
 }
 

@@ -13,7 +13,7 @@ by_element : (b : Bool) (m : ℕ) (ts : List Task) → (1 ≤ m) → (m ≤ 16) 
 by_element true m ts some most few h = (some, most, few, λ i lt. h i no_task (omega arith) lt)
 by_element false m ts some most few h = λ all. h.2 no_task (all.3 h.0 h.1)
 
-pub returns-then-tasks-le-MOST_TASKS : goal.returns-then-tasks-le-MOST_TASKS
-returns-then-tasks-le-MOST_TASKS c =
+pub returns-then-cores-le-MOST_CORES : goal.returns-then-cores-le-MOST_CORES
+returns-then-cores-le-MOST_CORES c =
     by_element _ c.args.cores c.args.tasks.now (search (rules, tests)) (search (rules, tests)) (search (rules, tests))
     (cases_from_all _ _ _ TaskWithinLimits (λ t. TaskWithinLimits t → ⊥) c.all.ensures.ran (YieldsList-from_slice c.args.tasks.now cc) (λ x q k. search (rules, tests)) (λ x q k. search (rules, tests)))
