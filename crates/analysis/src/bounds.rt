@@ -10,9 +10,10 @@ use crate::rivals::limit;
 use crate::task::Task;
 use crate::task_set::Arranged;
 use interference::rule::Rule;
+use std::mem;
 
 // The least bounds that solve the equations within the limits, by task number, and 0 past the last task. None where
-// there is no solution. They are an array since all memory is fixed, and what it holds past the last task is promised too.
+// there is no solution. They are an array since what it holds past the last task is part of the promise.
 pub fn seek_bounds<R: Rule>(rule: &R, tasks: &Arranged) -> Option<[u32; 32]>
     ensures { MatchOption result (NoSolutionIn (R.Rule.meaning rule.now) tasks.now)
         (λ bounds. LeastSolutionIn (R.Rule.meaning rule.now) tasks.now bounds × Padded (length tasks.now.ordered.set.tasks.now) 0 bounds) }
@@ -30,6 +31,7 @@ fn costs(tasks: &[Task]) -> [u32; 32]
     ensures wide { length result ≡ 32 }
 {
     let mut bounds = [0; 32];
+    // tried over iter_mut and zip, the proof did not close by itself
     for (i, t) in tasks.iter().enumerate() {
         bounds[i] = t.cost;
     }
@@ -71,9 +73,7 @@ fn store(bounds: &mut [u32; 32], k: usize, b: u32) -> bool
     ensures stored { bounds.new ≡ slice_set bounds.old k b }
     ensures changed { MatchBool result (b ≢ slice_index bounds.old k) (b ≡ slice_index bounds.old k) }
 {
-    let changed = b != bounds[k];
-    bounds[k] = b;
-    changed
+    mem::replace(&mut bounds[k], b) != b
 }
 
 // The least solution of the equation of the task at a place, under the bounds of the others.

@@ -12,15 +12,10 @@ use interference::limits::{MOST_CORES, MOST_TICKS};
 pub fn is_task_set(cores: u32, tasks: &[Task]) -> bool
     ensures { Tells result (MakesSet cores tasks.now) }
 {
-    if cores < 1 || cores > MOST_CORES || tasks.len() > MOST_TASKS {
-        return false;
-    }
-    for t in tasks {
-        if !is_within_limits(t) {
-            return false;
-        }
-    }
-    true
+    tasks.len() <= MOST_TASKS
+        && cores >= 1
+        && cores <= MOST_CORES
+        && tasks.iter().all(is_within_limits)
 }
 
 // Whether a task keeps 1 ≤ cost ≤ deadline ≤ period ≤ 65,535.
@@ -34,15 +29,11 @@ pub fn is_within_limits(t: &Task) -> bool
 pub fn is_order(count: usize, order: &[usize]) -> bool
     ensures { Tells result (IsOrder count order.now) }
 {
-    if order.len() != count {
-        return false;
-    }
-    for (p, k) in order.iter().enumerate() {
-        if *k >= count || stands(&order[0..p], *k) {
-            return false;
-        }
-    }
-    true
+    order.len() == count
+        && order
+            .iter()
+            .enumerate()
+            .all(|(p, k)| *k < count && !stands(&order[0..p], *k))
 }
 
 // Whether a list gives each task a length from 1 to its cost.

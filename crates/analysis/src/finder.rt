@@ -19,6 +19,7 @@ pub struct Trying;
 
 impl<R: Rule> Finder<R> for Trying {
     fn first(&self, rule: &R, place: &Place) -> Option<u32> {
+        // tried with find on the range, the proof did not close by itself
         'lengths: for f in 1..=place.task.cost {
             if passes(rule, place, f) {
                 return Some(f);

@@ -11,6 +11,8 @@ use crate::verdict::{is_solution, task_passes};
 use interference::full::Full;
 use interference::limited::Limited;
 
+// One function over the rule would be no plainer: each of the four states its own written-out form.
+
 // Deadline analysis of one task.
 #[tactic(auto, using(crate::proofs::Written::deadline_tells, crate::proofs::Written::deadline_written))]
 pub fn deadline_analysis(tasks: &Arranged, k: usize) -> bool

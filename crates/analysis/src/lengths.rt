@@ -10,7 +10,7 @@ use interference::rule::Rule;
 use interference::steady::SteadyRule;
 
 // The least lengths with which all tasks pass in this order, by task number, and 1 past the last task. None where no
-// choice of lengths passes. They are an array since all memory is fixed, and what it holds past the last task is promised.
+// choice of lengths passes. They are an array since what it holds past the last task is part of the promise.
 pub fn seek_lengths<R: Rule>(rule: &R, tasks: &Ordered) -> Option<[u32; 32]>
     ensures { MatchOption result (NoOrderedLengths (R.Rule.meaning rule.now) tasks.now) (OrderedLengths (R.Rule.meaning rule.now) tasks.now) }
 {
@@ -37,7 +37,8 @@ pub(crate) fn length_by<R: Rule, F: Finder<R>>(
     finder.first(rule, &level.place(k, &Finishes::Limits))
 }
 
-// The same with a finder of your own: from the lowest place up, each task gets the first length that passes.
+// The same with a finder of your own: from the lowest place up, each task gets the first length that passes. The two
+// above stay beside it since each asks its own trait of the rule.
 pub fn lengths_by<R: Rule, F: Finder<R>>(finder: &F, rule: &R, tasks: &Ordered) -> Option<[u32; 32]>
     ensures { MatchOption result (NoOrderedLengths (R.Rule.meaning rule.now) tasks.now) (OrderedLengths (R.Rule.meaning rule.now) tasks.now) }
 {

@@ -8,7 +8,8 @@ use crate::rivals::{Rivals, as_rival, limit, stands};
 use crate::task::Task;
 use crate::task_set::TaskSet;
 
-// By when each rival is finished at the latest: by its limit, or by its own bound.
+// By when each rival is finished at the latest: by its limit, or by its own bound. An Option is no plainer: its None
+// would not say that rivals finish by their limits.
 #[derive(Clone, Copy)]
 pub enum Finishes<'a> {
     Limits,

@@ -14,7 +14,7 @@ use interference::rule::Rule;
 use interference::steady::SteadyRule;
 
 // An order from the lowest place up, 0 past the last task, and lengths by task number, 1 past the last task. These are
-// arrays since all memory of a plan is fixed, and what they hold past the last task is promised too.
+// arrays since what they hold past the last task is part of the promise.
 #[derive(Clone, Copy)]
 pub struct Plan {
     pub order: [usize; 8],
@@ -47,6 +47,7 @@ fn candidate<R: Rule, F: Finder<R>>(
         (λ p. (from ≤ p.0) × (p.0 < length level.now.set.tasks.now) × (among level.now.low.now p.0 ≡ false) × FirstAt (R.Rule.meaning rule.now) level.now p.0 p.1
         × ((y : ℕ) → from ≤ y → y < p.0 → StuckAt (R.Rule.meaning rule.now) level.now y)) }
 {
+    // tried as a chain of filter and find_map, the check did not end in 100 s
     'tasks: for x in from..level.set.tasks.len() {
         if !stands(level.low, x) {
             if let Some(f) = length_by(finder, rule, level, x) {
@@ -58,7 +59,8 @@ fn candidate<R: Rule, F: Finder<R>>(
 }
 
 // The same with a finder of your own. Depth first, a level for each place from the lowest up. At a level without a
-// candidate the search goes back to the task after the one that was placed last.
+// candidate the search goes back to the task after the one that was placed last. The two above stay beside it since
+// each asks its own trait of the rule.
 pub fn plan_by<R: Rule, F: Finder<R>>(finder: &F, rule: &R, tasks: &SmallSet) -> Option<Plan>
     ensures { MatchOption result (NoPlanOf (R.Rule.meaning rule.now) tasks.now.set) (PlanOf (R.Rule.meaning rule.now) tasks.now.set) }
 {

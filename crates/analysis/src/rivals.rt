@@ -1,12 +1,13 @@
 ghost use Rattle.std.specs.Prelude.{◌≡◌};
 ghost use Rattle.analysis.specs.Rivals.{finish_limit, among, rival_of};
 
+use crate::limits::MOST_TASKS;
 use crate::task::Task;
 use arrayvec::ArrayVec;
 use interference::rival::Rival;
 
 // As many as there can be tasks.
-pub type Rivals = ArrayVec<Rival, 32>;
+pub type Rivals = ArrayVec<Rival, MOST_TASKS>;
 
 // The one place where a task becomes a rival.
 pub fn as_rival(t: &Task, cost: u32, finish: u32) -> Rival

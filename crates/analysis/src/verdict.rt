@@ -39,18 +39,12 @@ fn place_passes<R: Rule>(rule: &R, tasks: &Arranged, p: usize) -> bool
 pub fn is_solution<R: Rule>(rule: &R, tasks: &Arranged, bounds: &[u32]) -> bool
     ensures { Tells result ((length tasks.now.ordered.set.tasks.now ≤ length bounds.now) × SolutionIn (R.Rule.meaning rule.now) tasks.now bounds.now) }
 {
-    if !are_within(&tasks.ordered.set, bounds) {
-        return false;
-    }
-    'places: for p in 0..tasks.ordered.order.len() {
-        if !keeps(rule, tasks, bounds, p) {
-            return false;
-        }
-    }
-    true
+    are_within(&tasks.ordered.set, bounds)
+        && (0..tasks.ordered.order.len()).all(|p| keeps(rule, tasks, bounds, p))
 }
 
-// Whether each bound is at least the cost and at most the limit.
+// Whether each bound is at least the cost and at most the limit. A helper shared with is_choice would be no
+// plainer: only the test of the length and the zip are alike, and it would need a contract over the closure.
 fn are_within(set: &TaskSet, bounds: &[u32]) -> bool
     ensures { Tells result ((length set.now.tasks.now ≤ length bounds.now) × WithinLimits set.now bounds.now) }
 {
