@@ -8,7 +8,8 @@ use crate::rivals::limit;
 use interference::question::Question;
 use interference::rule::Rule;
 
-// The one place that puts a question: an equal part of the rule's sum for each core, for a region of length f.
+// The one place that puts a question: an equal part of the rule's sum for each core, for a region of length f. A place and
+// a region come side by side here and below: a type for both would be made anew for each length that is tried.
 fn part<R: Rule>(rule: &R, place: &Place, window: u32, f: u32) -> u32
     requires region { RegionOf place.now f }
     requires window { (own_demand place.now.task f ≤ window) × (window ≤ 65535) }

@@ -91,7 +91,8 @@ pub struct Arranged<'a> {
 }
 
 impl<'a> Arranged<'a> {
-    // What stands below the task at a place.
+    // What stands below the task at a place. Who asks goes on with the task's number, to its length and its bound, so that
+    // a method which also took the step to its rivals would have to give the number back.
     pub(crate) fn level(&self, p: usize) -> Level<'a>
         requires { p < length self.now.ordered.order.now }
         ensures set { result.set ≡ self.now.ordered.set }
