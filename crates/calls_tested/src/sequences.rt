@@ -1,24 +1,16 @@
 use crate::line::Line;
 use crate::script::{Step, calls};
 use crate::scripts::{ANY_RULE, LIMITS, ORDERS_AND_LENGTHS, SECOND_EXAMPLE, STEADY_RULES};
-use analysis::task::Task;
 use planner::marks::Marks;
 use planner::open::OpenTable;
-use planner::replay::{Outcome, Report, Standing, Table, replay};
+use planner::replay::{Report, Standing, Table, replay};
 use std::alloc::Global;
 use std::process::Abort;
 use std::test::Fail;
 
 // A report that no call wrote.
 const BLANK: Report = Report {
-    outcome: Outcome::NotApplicable,
     cores: 77,
-    count: 0,
-    tasks: [Task {
-        cost: 0,
-        deadline: 0,
-        period: 0,
-    }; 32],
     fixed: Some(Standing {
         marks: Marks {
             passed: true,
@@ -29,6 +21,7 @@ const BLANK: Report = Report {
         lengths: [0; 32],
         bounds: [0; 32],
     }),
+    ..Report::BLANK
 };
 
 // Plays a script on a new table by `replay`, and compares each report with its line.

@@ -44,7 +44,7 @@ pub record Answered (file : List ℕ) (n : ℕ) (old new : List ℕ) : Type 0 wh
   pub count : n ≡ length bytes
   pub text : new ≡ over bytes old
 
--- What planning a file gives: the table whose file is the answer, and small enough to be written, or the notice that is.
+-- What planning a file gives: the table whose file is the answer, and small enough to be written, or the notice that is the answer.
 abbrev pub FilePlanned : Result Stored Fault → Result (FixedTable Full) Notice → Type 0
 FilePlanned r (Ok t) = (length (file_text (of_fixed (holds t))) ≤ 1024) × FileAnswer r (file_text (of_fixed (holds t)))
 FilePlanned r (Err n) = FileAnswer r (notice_line n)

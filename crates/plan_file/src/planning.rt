@@ -53,7 +53,8 @@ fn plan(table: OpenTable, calls: Vec<Call<Full, Full>>) -> Result<FixedTable<Ful
     Ok(planned)
 }
 
-// The notice of a search that was refused has no line and column.
+// The notice of a search that was refused has no line and column. It is no `From`: neither type is of this crate, and only
+// here is a refusal one of a search.
 fn seek_notice(refusal: Refusal) -> Notice
     ensures { result ≡ refusal_notice (number refusal) }
 {

@@ -58,7 +58,8 @@ pub enum Table<R, S> {
     Steady(FixedTable<S>),
 }
 
-// What came of a call. A call that is not for a table of this kind is not applicable.
+// What came of a call. A call that is not for a table of this kind is not applicable; as an `Option` of a `Result` that
+// case would have no name.
 #[derive(Clone, Copy, PartialEq, Eq, Debug)]
 pub enum Outcome {
     Done,
@@ -89,7 +90,7 @@ pub struct Standing {
 }
 
 // What a call left: what came of it, and the whole table; an open one has no standing. Entries of a list from `count` on
-// carry nothing: the lists are arrays, since a caller lends places for reports, and a report wants no memory.
+// carry nothing: the lists are arrays, since a report is copied and `BLANK` is a constant, and an `ArrayVec` can be neither.
 #[derive(Clone, Copy)]
 pub struct Report {
     pub outcome: Outcome,

@@ -40,7 +40,7 @@ pub(crate) fn frame_of<'a>(s: Stretch<'a>) -> Result<Frame<'a>, Fault>
     }
 }
 
-// Refuses fields of another size.
+// Refuses fields of another size. No kind has fields of more than 12 digits.
 fn sized<'a, const N: usize>(digits: &'a [u8], line: u16) -> Result<Fields<'a, N>, Fault>
     requires few { N ≤ 12 }
     requires hex { AllDigits digits.now }

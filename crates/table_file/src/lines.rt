@@ -5,7 +5,8 @@ use crate::digits::is_hex;
 use crate::fault::{Fault, Number};
 use crate::stretch::Stretch;
 
-// What is left of a file, and the number of its first line. Each line before it had two bytes at least.
+// What is left of a file, and the number of its first line. Each line before the rest had three bytes at least; to
+// count two is enough for the line's number to fit its type.
 #[derive(Drop)]
 pub(crate) struct Lines<'a> {
     pub(crate) rest: &'a [u8],

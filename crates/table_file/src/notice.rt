@@ -9,7 +9,7 @@ use planner::refusal::Refusal;
 const NOTICE_BYTES: usize = 15;
 
 // A refusal as a frame, in the place of a file: its number, layer, line and column. Number and layer are the bytes
-// that are written, since any of them can be: an enum would ask more of who writes a notice.
+// that are written, since any byte can be: an enum would ask more of who writes a notice.
 #[derive(Clone, Copy, PartialEq, Eq, Debug)]
 pub struct Notice {
     pub number: u8,

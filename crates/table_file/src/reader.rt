@@ -120,13 +120,10 @@ impl Reader {
     {
         match self.phase {
             Phase::Start => Err(Fault::of_line(Number::NotDue, line)),
-            Phase::Tasks => Ok(()),
-            Phase::Places => {
-                if self.places.len() < self.tasks.len() {
-                    return Err(Fault::of_line(Number::NotDue, line));
-                }
-                Ok(())
+            Phase::Places if self.places.len() < self.tasks.len() => {
+                Err(Fault::of_line(Number::NotDue, line))
             }
+            _ => Ok(()),
         }
     }
 }

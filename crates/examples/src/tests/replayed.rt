@@ -4,7 +4,6 @@ use interference::handler::Handler;
 use interference::interrupt::Interrupt;
 use planner::marks::Marks;
 use planner::open::OpenTable;
-use planner::refusal::Refusal;
 use planner::replay::{Call, FixedCall, OpenCall, Outcome, QuickCall, Report};
 use std::alloc::{AllocError, Global};
 use std::process::Abort;
@@ -61,15 +60,22 @@ fn calls(
 }
 
 // Places, lengths and bounds of three tasks, and both marks.
-fn shows(rt: &impl Abort, report: &Report, lists: [[u32; 3]; 3], marks: Marks) -> Result<(), Fail> {
+fn shows(
+    rt: &impl Abort,
+    report: &Report,
+    places: [u32; 3],
+    lengths: [u32; 3],
+    bounds: [u32; 3],
+    marks: Marks,
+) -> Result<(), Fail> {
     let Some(standing) = report.fixed else {
         return Err(Fail::new("an open table"));
     };
     let three = |xs: [u32; 32]| [xs[0], xs[1], xs[2]];
     assert_eq!(rt; report.count, 3);
-    assert_eq!(rt; three(standing.places), lists[0]);
-    assert_eq!(rt; three(standing.lengths), lists[1]);
-    assert_eq!(rt; three(standing.bounds), lists[2]);
+    assert_eq!(rt; three(standing.places), places);
+    assert_eq!(rt; three(standing.lengths), lengths);
+    assert_eq!(rt; three(standing.bounds), bounds);
     assert_eq!(rt; standing.marks, marks);
     Ok(())
 }
@@ -82,12 +88,15 @@ fn replays_under_an_outsider(rt: HostRuntime) -> Result<(), Fail> {
     let table = OpenTable::new(rt.alloc())?;
     let (n, _) = replay_twice(table, calls(rt.alloc(), interrupt)?, &mut reports);
     assert_eq!(rt; n, 12);
-    assert_eq!(rt; reports[5].outcome, Outcome::Refused(Refusal::NoLengths));
-    shows(&rt, &reports[5], [[1, 2, 3], [1; 3], [0; 3]], UNMARKED)?;
-    shows(&rt, &reports[6], [[2, 3, 1], [5, 1, 1], [0; 3]], PASSED)?;
-    shows(&rt, &reports[7], [[2, 3, 1], [5, 1, 1], [28, 14, 21]], BOTH)?;
+    let Outcome::Refused(refusal) = reports[5].outcome else {
+        return Err(Fail::new("not refused"));
+    };
+    assert_eq!(rt; u8::from(refusal), 7);
+    shows(&rt, &reports[5], [1, 2, 3], [1; 3], [0; 3], UNMARKED)?;
+    shows(&rt, &reports[6], [2, 3, 1], [5, 1, 1], [0; 3], PASSED)?;
+    shows(&rt, &reports[7], [2, 3, 1], [5, 1, 1], [28, 14, 21], BOTH)?;
     assert_eq!(rt; reports[10].outcome, Outcome::NotApplicable);
-    shows(&rt, &reports[10], [[1, 2, 3], [1; 3], [0; 3]], UNMARKED)?;
-    shows(&rt, &reports[11], [[2, 3, 1], [5, 1, 1], [0; 3]], PASSED)?;
+    shows(&rt, &reports[10], [1, 2, 3], [1; 3], [0; 3], UNMARKED)?;
+    shows(&rt, &reports[11], [2, 3, 1], [5, 1, 1], [0; 3], PASSED)?;
     Ok(())
 }

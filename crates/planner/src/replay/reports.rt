@@ -15,49 +15,29 @@ pub(super) fn report<R: Rule, S: SteadyRule>(table: &Table<R, S>, outcome: Outco
     ensures outcome { result.outcome ≡ outcome }
     ensures shows { Shows (state table.now) result }
 {
-    match table {
-        Table::Open(t) => show_open(t, outcome),
-        Table::Fixed(t) => show_fixed(t, outcome),
-        Table::Steady(t) => show_fixed(t, outcome),
-    }
-}
-
-fn show_open(t: &OpenTable, outcome: Outcome) -> Report
-    ensures outcome { result.outcome ≡ outcome }
-    ensures shows { ShowsOpen (held t.now) result }
-{
-    let rows = t.rows();
+    let (cores, rows, fixed) = match table {
+        Table::Open(t) => (t.core_count(), t.rows(), None),
+        Table::Fixed(t) => (t.core_count(), t.rows(), Some(standing(t))),
+        Table::Steady(t) => (t.core_count(), t.rows(), Some(standing(t))),
+    };
     Report {
         outcome,
-        cores: t.core_count(),
+        cores,
         count: rows.len(),
         tasks: tasks_of(rows),
-        fixed: None,
+        fixed,
     }
 }
 
-fn show_fixed<R: Rule>(t: &FixedTable<R>, outcome: Outcome) -> Report
-    ensures outcome { result.outcome ≡ outcome }
-    ensures shows { ShowsFixed (holds t.now) result }
-{
-    let rows = t.rows();
-    Report {
-        outcome,
-        cores: t.core_count(),
-        count: rows.len(),
-        tasks: tasks_of(rows),
-        fixed: Some(standing(t)),
-    }
-}
-
+// What stands in a fixed table; read out by place, and then by task number.
 fn standing<R: Rule>(t: &FixedTable<R>) -> Standing
     ensures { ShowsStanding (holds t.now) (length (holds t.now).tasks) result }
 {
     let rows = t.rows();
     let mut places = [0; 32];
-    let mut by_place = [0; 32];
-    let mut late = [0; 32];
-    let Ok(marks) = t.read_out(&mut places, &mut by_place, &mut late) else {
+    let mut lengths = [0; 32];
+    let mut bounds = [0; 32];
+    let Ok(marks) = t.read_out(&mut places, &mut lengths, &mut bounds) else {
         unreachable()
     };
     Standing {

@@ -108,6 +108,7 @@ pub fn replay<R: Rule + Drop, S: SteadyRule + Drop>(
 {
     let count = calls.len().min(reports.len());
     let mut table = Table::Open(table);
+    // one by one: over a zip of reports and calls the loop's proof knows nothing of the reports
     let mut rest = calls.into_iter();
     'calls: for report in reports.iter_mut() {
         let Some(call) = rest.next() else {

@@ -13,7 +13,7 @@ mod responses;
 mod seeks;
 
 // A table joined with a rule: an order from the lowest place up, by task index, a length and a bound for each task,
-// and two marks.
+// and two marks. Each call says by a clause `rule` of its own that it keeps the rule: callers cite it by that name.
 #[derive(Drop)]
 pub struct FixedTable<R> {
     pub(in crate::tables) rows: Rows,

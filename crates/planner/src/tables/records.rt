@@ -8,6 +8,7 @@ use crate::rows::{Row, Rows};
 use analysis::checks::is_within_limits;
 use analysis::task::Task;
 
+// What an open table keeps of its records, `Fresh`, is said here of rows, since both kinds of table hold these.
 impl Rows {
     pub(in crate::tables) fn count(&self) -> usize
         ensures value { result ≡ length (kept self.now).tasks }
@@ -16,7 +17,7 @@ impl Rows {
         self.items.len()
     }
 
-    // Whether a task has this number.
+    // Whether a task has this number. It is no `Option` of the task: what follows also writes by the number.
     pub(in crate::tables) fn has(&self, number: u32) -> bool
         ensures { MatchBool result (HasTask (kept self.now).tasks number) (HasTask (kept self.now).tasks number → ⊥) }
     {

@@ -52,6 +52,7 @@ fn write(rows: &mut [Row], found: &[u32; 32], solved: &[u32; 32])
     ensures lengths { lengths rows.new ≡ take (length rows.old) found.now }
     ensures bounds { bounds rows.new ≡ take (length rows.old) solved.now }
 {
+    // the two lists are longer than the rows, so a zip of three would hide which end counts
     for (i, row) in rows.iter_mut().enumerate() {
         row.length = found[i];
         row.bound = solved[i];

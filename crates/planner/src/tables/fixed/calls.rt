@@ -140,7 +140,7 @@ fn from_below(places: &[u32], count: usize) -> Option<[usize; 32]>
     }
 }
 
-// Puts the first numbers of a list in the place of those of an order.
+// Sets the entries of an order to the first of a list.
 fn set_order(order: &mut Vec<usize>, fresh: &[usize])
     requires { vec_len order.old ≤ length fresh.now }
     ensures items { order.new.items ≡ take (vec_len order.old) fresh.now }

@@ -80,7 +80,7 @@ fn write_places(
     ensures lengths { lengths.new ≡ over (as_standing order.now (row_lengths rows.now)) lengths.old }
     ensures bounds { bounds.new ≡ over (as_standing order.now (row_bounds rows.now)) bounds.old }
 {
-    // by index, since it reads from the end and writes three lists: to turn each round afterwards is no plainer
+    // over `order.iter().rev().enumerate()` its proof did not close
     let count = order.len();
     for p in 0..count {
         let k = order[count - 1 - p];
