@@ -57,6 +57,7 @@ impl Reader {
         }
     }
 
+    // Each of these three tests the rules of its own frame.
     fn take_cores(&mut self, fields: Fields<2>) -> Result<(), Fault>
         ensures { Steps (step_cores (view self.old) fields.entry.digits.now fields.entry.line) result self.old self.new }
     {

@@ -25,6 +25,7 @@ fn read_frames(bytes: &[u8]) -> Result<Reader, Fault>
         rest: bytes,
         line: 1,
     };
+    // not an iterator of lines: after the last one its number is still wanted
     while !lines.rest.is_empty() {
         let line = lines.take()?;
         let frame = frame_of(line)?;

@@ -13,8 +13,10 @@ use crate::open::OpenTable;
 use crate::refusal::Refusal;
 use crate::rows::Rows;
 use analysis::checks::is_order;
+use analysis::limits::MOST_TASKS;
 use analysis::task::Task;
 use analysis::task_set::Ordered;
+use arrayvec::ArrayVec;
 use interference::rule::Rule;
 
 impl OpenTable {
@@ -121,19 +123,19 @@ impl<R: Rule> FixedTable<R> {
 }
 
 // Task numbers, the highest place first, as an order from the lowest place up; nothing if they do not name each task once.
-fn from_below(places: &[u32], count: usize) -> Option<[usize; 32]>
+fn from_below(places: &[u32], count: usize) -> Option<ArrayVec<usize, MOST_TASKS>>
     requires { count ≤ 32 }
-    ensures { MatchOption result (NamesEach count places.now → ⊥) (λ fresh. (length fresh ≡ 32) × NamesEach count places.now × (take count fresh ≡ upward places.now)) }
+    ensures { MatchOption result (NamesEach count places.now → ⊥) (λ fresh. NamesEach count places.now × (fresh.items ≡ upward places.now)) }
 {
     if places.len() != count {
         return None;
     }
-    let mut fresh = [0; 32];
-    for (i, number) in places.iter().enumerate() {
-        fresh[i] = number.checked_sub(1)? as usize;
+    let mut fresh = ArrayVec::new();
+    for number in places {
+        fresh.push(number.checked_sub(1)? as usize);
     }
-    fresh[..count].reverse();
-    if is_order(count, &fresh[0..count]) {
+    fresh.reverse();
+    if is_order(count, &fresh) {
         Some(fresh)
     } else {
         None

@@ -54,7 +54,7 @@ impl<R: Rule> FixedTable<R> {
     }
 }
 
-// An order, in the first places of an array.
+// An order, in the first places of an array, as a report holds it.
 fn order_of(order: &[usize]) -> [usize; 32]
     requires { length order.now ≤ 32 }
     ensures { take (length order.now) result ≡ order.now }

@@ -6,6 +6,7 @@ ghost use Rattle.planner.specs.Reading.{OpenWithinLimits};
 use super::OpenTable;
 use crate::rows::Row;
 
+// A fixed table has these two calls too; each kind promises of its own what it holds.
 impl OpenTable {
     // How many cores the controller has.
     pub fn core_count(&self) -> u32
