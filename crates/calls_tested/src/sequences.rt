@@ -24,13 +24,18 @@ const BLANK: Report = Report {
     ..Report::BLANK
 };
 
+fn says(rt: &impl Abort, heap: Global, report: &Report, line: &str) -> Result<(), Fail> {
+    assert_eq!(rt; Line(report).to_string(heap)?.as_str(), line);
+    Ok(())
+}
+
 // Plays a script on a new table by `replay`, and compares each report with its line.
 fn plays(rt: &impl Abort, heap: Global, script: &[(Step, &str)]) -> Result<(), Fail> {
     let mut reports = [BLANK; 40];
     let (n, _) = replay(OpenTable::new(heap)?, calls(heap, script)?, &mut reports);
     assert_eq!(rt; n, script.len());
     for (report, (_, said)) in reports.iter().zip(script.iter()) {
-        assert_eq!(rt; Line(report).to_string(heap)?.as_str(), *said);
+        says(rt, heap, report, said)?;
     }
     Ok(())
 }
@@ -64,7 +69,7 @@ fn second_example(rt: HostRuntime) -> Result<(), Fail> {
 fn are(rt: &impl Abort, heap: Global, reports: &[Report], lines: &[&str]) -> Result<(), Fail> {
     assert_eq!(rt; reports.len(), lines.len());
     for (report, said) in reports.iter().zip(lines.iter()) {
-        assert_eq!(rt; Line(report).to_string(heap)?.as_str(), *said);
+        says(rt, heap, report, said)?;
     }
     Ok(())
 }
