@@ -31,7 +31,7 @@ fn costs(tasks: &[Task]) -> [u32; 32]
     ensures wide { length result ≡ 32 }
 {
     let mut bounds = [0; 32];
-    // tried over iter_mut and zip, the proof did not close by itself
+    // over `iter_mut` and `zip` the loop's proof knows nothing of the array: it did not close
     for (i, t) in tasks.iter().enumerate() {
         bounds[i] = t.cost;
     }
@@ -47,6 +47,7 @@ fn sweep<R: Rule>(rule: &R, tasks: &Arranged, bounds: &mut [u32; 32]) -> Option<
         × MatchBool changed (Grows tasks.now.ordered.set bounds.old bounds.new) (LeastSolutionIn (R.Rule.meaning rule.now) tasks.now bounds.new)) }
 {
     let mut changed = false;
+    // a number and no item: what stands at a place and below it is read in the steps, which no item has
     'places: for p in (0..tasks.ordered.order.len()).rev() {
         let raised = raise(rule, tasks, p, bounds)?;
         changed |= raised;

@@ -37,8 +37,8 @@ pub(crate) fn length_by<R: Rule, F: Finder<R>>(
     finder.first(rule, &level.place(k, &Finishes::Limits))
 }
 
-// The same with a finder of your own: from the lowest place up, each task gets the first length that passes. The two
-// above stay beside it since each asks its own trait of the rule.
+// The same with the finder as a parameter: from the lowest place up, each task gets the first length that passes. The two
+// above are this one with either finder; who wants no choice would be no plainer for naming one.
 pub fn lengths_by<R: Rule, F: Finder<R>>(finder: &F, rule: &R, tasks: &Ordered) -> Option<[u32; 32]>
     ensures { MatchOption result (NoOrderedLengths (R.Rule.meaning rule.now) tasks.now) (OrderedLengths (R.Rule.meaning rule.now) tasks.now) }
 {

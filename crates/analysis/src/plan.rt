@@ -58,9 +58,9 @@ fn candidate<R: Rule, F: Finder<R>>(
     None
 }
 
-// The same with a finder of your own. Depth first, a level for each place from the lowest up. At a level without a
-// candidate the search goes back to the task after the one that was placed last. The two above stay beside it since
-// each asks its own trait of the rule.
+// The same with the finder as a parameter. Depth first, a level for each place from the lowest up. At a level without a
+// candidate the search goes back to the task after the one that was placed last. The two above are this one with either
+// finder; who wants no choice would be no plainer for naming one.
 pub fn plan_by<R: Rule, F: Finder<R>>(finder: &F, rule: &R, tasks: &SmallSet) -> Option<Plan>
     ensures { MatchOption result (NoPlanOf (R.Rule.meaning rule.now) tasks.now.set) (PlanOf (R.Rule.meaning rule.now) tasks.now.set) }
 {

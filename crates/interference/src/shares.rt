@@ -61,7 +61,8 @@ pub(crate) fn handler(q: &Question, i: Interrupt) -> u32
     capped(q, i.cost, i.gap, q.window)
 }
 
-// The workload, but no more than the cap of shares.
+// The workload, but no more than the cap of shares. Cost, period and ticks are the workload's own arguments, in the order
+// of its definition; a struct of them would name nothing.
 fn capped(q: &Question, cost: u32, period: u32, ticks: u32) -> u32
     requires { (cost ≤ period) × (1 ≤ period) }
     ensures { result ≡ min (workload cost period ticks) (share_cap (query q.now)) }

@@ -39,7 +39,8 @@ pub(crate) fn bounds_of(rows: &[Row]) -> [u32; 32]
     column(rows, 0, |row| row.bound)
 }
 
-// What one entry of each row is, in the first places of an array, as a report holds it.
+// What one entry of each row is, in the first places of an array: a report holds such arrays, and one way to read a column
+// serves the searches too.
 fn column<T: Copy, F: Fn(&Row) -> T>(rows: &[Row], blank: T, entry: F) -> [T; 32]
     requires short { length rows.now ≤ 32 }
     requires callable { F.IsAlwaysCallable entry }

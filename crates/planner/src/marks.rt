@@ -1,4 +1,5 @@
-// The two marks of a fixed table; both are off by default.
+// The two marks of a fixed table; both are off by default. They are no Options of lengths and bounds: a table has both
+// anyway, and a mark says what is known of them.
 #[derive(Clone, Copy, Default, PartialEq, Eq, Debug)]
 pub struct Marks {
     // every task passes

@@ -101,7 +101,7 @@ pub struct Report {
 }
 
 impl Report {
-    // What a place for a report can hold before there is one.
+    // What a place for a report can hold before there is one; a constant, so that an array can be filled with it.
     pub const BLANK: Report = Report {
         outcome: Outcome::NotApplicable,
         cores: 0,

@@ -50,7 +50,7 @@ fn on_steady<S: SteadyRule>(t: &mut FixedTable<S>, call: QuickCall) -> Result<()
     }
 }
 
-// One call on a table of any kind.
+// One call on a table of any kind. The arms of a fixed and of a steady table look alike, but bind tables of two types.
 fn turn<R: Rule + Drop, S: SteadyRule + Drop>(
     table: Table<R, S>,
     call: Call<R, S>,

@@ -6,9 +6,7 @@ use super::FixedTable;
 use crate::marks::Marks;
 use crate::refusal::Refusal;
 use analysis::finder::{Finder, Halving, Trying};
-use analysis::limits::MOST_PLANNED;
 use analysis::plan::plan_by;
-use analysis::task_set::SmallSet;
 use interference::rule::Rule;
 use interference::steady::SteadyRule;
 
@@ -25,12 +23,11 @@ impl<R: Rule> FixedTable<R> {
         ensures rule { self.new.rule ≡ self.old.rule }
         ensures call { PlanSought (holds self.old) (R.Rule.meaning self.old.rule) result (holds self.new) }
     {
-        if self.rows.count() > MOST_PLANNED {
-            return Err(Refusal::TooManyTasks);
-        }
         let tasks = self.rows.read_tasks();
-        let set = self.rows.task_set(&tasks);
-        let Some(plan) = plan_by(finder, &self.rule, &SmallSet { set }) else {
+        let Some(small) = self.rows.task_set(&tasks).small() else {
+            return Err(Refusal::TooManyTasks);
+        };
+        let Some(plan) = plan_by(finder, &self.rule, &small) else {
             return Err(Refusal::NoPlan);
         };
         self.arrange(&plan.order, &plan.lengths, Marks::PASSED);
@@ -39,7 +36,7 @@ impl<R: Rule> FixedTable<R> {
 }
 
 impl<R: SteadyRule> FixedTable<R> {
-    // Sets what seek plan would set, with fewer questions.
+    // Sets what seek plan would set, with fewer questions. It is a call of its own by its name among the calls.
     pub fn quick_plan(&mut self) -> Result<(), Refusal>
         ensures rule { self.new.rule ≡ self.old.rule }
         ensures call { PlanSought (holds self.old) (R.Rule.meaning self.old.rule) result (holds self.new) }

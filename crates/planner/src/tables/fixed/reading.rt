@@ -54,7 +54,8 @@ impl<R: Rule> FixedTable<R> {
     }
 }
 
-// An order, in the first places of an array, as a report holds it.
+// An order, in the first places of an array, as a report holds it. The searches have the same for eight tasks; in public
+// it would ask a length of its callers, and no public function may.
 fn order_of(order: &[usize]) -> [usize; 32]
     requires { length order.now ≤ 32 }
     ensures { take (length order.now) result ≡ order.now }

@@ -34,7 +34,7 @@ impl<R: Rule> FixedTable<R> {
 }
 
 impl<R: SteadyRule> FixedTable<R> {
-    // Sets what seek lengths would set, with fewer questions.
+    // Sets what seek lengths would set, with fewer questions. It is a call of its own by its name among the calls.
     pub fn quick_lengths(&mut self) -> Result<(), Refusal>
         ensures rule { self.new.rule ≡ self.old.rule }
         ensures call { LengthsSought (holds self.old) (R.Rule.meaning self.old.rule) result (holds self.new) }
