@@ -39,7 +39,8 @@ fn costs(tasks: &[Task]) -> [u32; 32]
 }
 
 // Takes each task, highest place first, to the least solution of its own equation under the bounds of the others at
-// that moment, and says whether a bound changed. None where a task has no such solution within its limit.
+// that moment, and says whether a bound changed. None where a task has no such solution within its limit. Rule, tasks and
+// bounds go on side by side, here and in the verdicts: one is lent to change, and a struct of the three would lend all.
 fn sweep<R: Rule>(rule: &R, tasks: &Arranged, bounds: &mut [u32; 32]) -> Option<bool>
     requires rising { RisingIn (R.Rule.meaning rule.now) tasks.now bounds.old }
     ensures { MatchOption result (OverrunIn (R.Rule.meaning rule.now) tasks.now)
