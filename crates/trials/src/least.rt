@@ -4,7 +4,8 @@ use std::alloc::Global;
 use std::io;
 
 // What trying everything leaves of the lists that hold: what it came to, and the least number in each place over all
-// of them. The values are `None` where there is no such list, or where these least numbers do not hold together.
+// of them. The values are `None` where there is no such list, or where these least numbers do not hold together; the
+// outcome stands beside them, since it is counted in either case.
 #[derive(Drop)]
 pub struct Least {
     pub outcome: Outcome,

@@ -14,6 +14,7 @@ pub fn orders(heap: Global, count: usize) -> Result<Vec<Vec<usize>>, AllocError>
 
 // How many lists there are of so many task numbers, with repeats.
 fn words(count: usize) -> usize {
+    // no `saturating_pow`: the exponent would be the count cast to u32
     (0..count).fold(1usize, |all, _| all.saturating_mul(count))
 }
 

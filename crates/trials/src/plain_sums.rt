@@ -36,6 +36,7 @@ pub struct Parts<'a> {
 // Counted tick by tick: with a release at every multiple of the period, the ticks in which the task executes if each
 // job executes at once.
 fn workload(cost: u32, period: u32, ticks: u32) -> u32 {
+    // counted by `fold`, since `count` gives a usize
     (0..ticks)
         .filter(|x| x % period.max(1) < cost)
         .fold(0u32, |executed, _| executed.saturating_add(1))
@@ -81,6 +82,7 @@ fn carried_by(q: &Parts, choice: u32) -> u32 {
 
 // The greatest of these over all choices.
 fn carried(q: &Parts) -> u32 {
+    // no `saturating_pow`: the exponent would be a length cast to u32
     let choices = q.upper.iter().fold(1u32, |n, _| n.saturating_mul(2));
     (0..choices)
         .map(|choice| carried_by(q, choice))
