@@ -49,7 +49,7 @@ module _ (a b : ℕ → Bool) (x : ℕ) (same : (j : ℕ) → (j ≡ x → ⊥) 
   same_before zero l = refl
   same_before (suc n) l = (λ i. same_before n (omega arith) i ++ cond (same n (λ e. omega arith) i) (n ∷ []) [])
 
-  one_more : (n : ℕ) → x < n → length (picked b (λ j. j) n) ≡ length (picked a (λ j. j) n) + 1
+  pub one_more : (n : ℕ) → x < n → length (picked b (λ j. j) n) ≡ length (picked a (λ j. j) n) + 1
   one_more zero l = absurd (omega arith)
   one_more (suc n) l =
       ⊎_elim

@@ -20,7 +20,7 @@ use Rattle.analysis.proofs.Picked.{each_picked}
 use Rattle.analysis.proofs.RivalLaws.{limits_late, Late, question_valid, div_grows}
 
 -- within the finish_limits
-within_late : (ts : List Task) → TasksWithinLimits ts → (bs : List ℕ) → BoundsWithin (length ts) (cost_of ts) (limit_of ts) bs → Late ts bs
+pub within_late : (ts : List Task) → TasksWithinLimits ts → (bs : List ℕ) → BoundsWithin (length ts) (cost_of ts) (limit_of ts) bs → Late ts bs
 within_late ts s bs w j l = let h = s j l in let b = w j l in (omega arith, omega arith)
 
 -- so are the latest finishes of a level
@@ -28,13 +28,13 @@ pub fit_late : (ts : List Task) → TasksWithinLimits ts → (late : Finishes) �
 fit_late ts s Limits f = limits_late ts s
 fit_late ts s (Bounds bs) f = within_late ts s bs.now f.1
 
-valid_bound : (m c f d b : ℕ) (us ls : List Rival) → 1 ≤ m → m ≤ 16 → 1 ≤ f → f ≤ c → c ≤ b → b ≤ d → d ≤ 65535 → length us + length ls ≤ 31 → RivalsWithinLimits us → RivalsWithinLimits ls
+pub valid_bound : (m c f d b : ℕ) (us ls : List Rival) → 1 ≤ m → m ≤ 16 → 1 ≤ f → f ≤ c → c ≤ b → b ≤ d → d ≤ 65535 → length us + length ls ≤ 31 → RivalsWithinLimits us → RivalsWithinLimits ls
     → Valid (posed m (b - (f - 1)) (c - (f - 1)) f us ls)
 valid_bound m c f d b us ls a h i j k l o few hu hl =
     record { times = (omega arith, omega arith, omega arith, omega arith, omega arith); sizes = (a, h, few); uppers = hu; lowers = hl }
 
 -- one task's own equation rises with its bound
-next_bound_widens : (sum : Query → ℕ) → Lawful sum → (m c f : ℕ) (us ls : List Rival) → 1 ≤ m → (v w : ℕ) → v ≤ w
+pub next_bound_widens : (sum : Query → ℕ) → Lawful sum → (m c f : ℕ) (us ls : List Rival) → 1 ≤ m → (v w : ℕ) → v ≤ w
     → Valid (posed m (v - (f - 1)) (c - (f - 1)) f us ls) → Valid (posed m (w - (f - 1)) (c - (f - 1)) f us ls) → next_bound sum m c f us ls v ≤ next_bound sum m c f us ls w
 next_bound_widens sum laws m c f us ls pos v w le a b =
     let h = laws.window_grows (posed m (v - (f - 1)) (c - (f - 1)) f us ls) (w - (f - 1)) a b (omega arith) in
@@ -84,7 +84,7 @@ module _ (sum : Query → ℕ) (laws : Lawful sum) (m : ℕ) (some : 1 ≤ m) (m
         (get_or bs k 0 - (f - 1), omega arith, omega arith);
   }
 
-next_bound_grows : (sum : Query → ℕ) → Lawful sum → (m c f d : ℕ) (us ls : List Rival) → 1 ≤ m → m ≤ 16 → 1 ≤ f → f ≤ c → d ≤ 65535 → length us + length ls ≤ 31 → RivalsWithinLimits us → RivalsWithinLimits ls
+pub next_bound_grows : (sum : Query → ℕ) → Lawful sum → (m c f d : ℕ) (us ls : List Rival) → 1 ≤ m → m ≤ 16 → 1 ≤ f → f ≤ c → d ≤ 65535 → length us + length ls ≤ 31 → RivalsWithinLimits us → RivalsWithinLimits ls
     → (v w : ℕ) → c ≤ v → v ≤ w → w ≤ d → next_bound sum m c f us ls v ≤ next_bound sum m c f us ls w
 next_bound_grows sum laws m c f d us ls a b e g h few hu hl v w i j k =
     next_bound_widens sum laws m c f us ls a v w j
@@ -94,7 +94,7 @@ next_bound_grows sum laws m c f d us ls a b e g h few hu hl v w i j k =
 pub next_grows : (sum : Query → ℕ) → Lawful sum → (p : Place) (f : ℕ) → RegionOf p f → (v w : ℕ) → p.task.cost ≤ v → v ≤ w → w ≤ finish_limit p.task → next_at sum p f v ≤ next_at sum p f w
 next_grows sum laws p f r =
     let h = p.limits in
-    next_bound_grows sum laws p.cores p.task.cost f (finish_limit p.task) p.upper.items p.lower.items p.some p.most r.0 r.1 (omega arith) p.few p.uppers p.lowers
+    next_bound_grows sum laws p.cores p.task.cost f (finish_limit p.task) p.upper.now p.lower.now p.some p.most r.0 r.1 (omega arith) p.few p.uppers p.lowers
 
 -- bounds that rose, and solve the equation at each place, are the least solution
 module _ (sum : Query → ℕ) (laws : Lawful sum) (m : ℕ) (some : 1 ≤ m) (most : m ≤ 16) (ts : List Task) (sound : TasksWithinLimits ts) (few : length ts ≤ 32) (q lens : List ℕ) (choice : IsChoice (cost_of ts) (length ts) lens) where

@@ -9,12 +9,12 @@ module _ (size : ℕ → ℕ) (n : ℕ) (ok : Test) (q : List ℕ) (order : IsOr
   lower : (p : ℕ) → p < length q → under q (get_or q p 0) ≡ take p q
   lower p l = under_at q p l (order.1 p l).1
 
-  pass_all : (lens : List ℕ) → PlacesPass ok q lens → ChoicePasses ok n q lens
+  pub pass_all : (lens : List ℕ) → PlacesPass ok q lens → ChoicePasses ok n q lens
   pass_all lens h k l =
       let e = everyone n q order k l in
       subst₂ (λ low j. ok low j lens (get_or lens j 0)) (sym (lower e.0 e.1) ∙ ap (under q) e.2) e.2 (h e.0 e.1)
 
-  all_pass : (lens : List ℕ) → ChoicePasses ok n q lens → PlacesPass ok q lens
+  pub all_pass : (lens : List ℕ) → ChoicePasses ok n q lens → PlacesPass ok q lens
   all_pass lens h p l = subst (λ low. ok low (get_or q p 0) lens (get_or lens (get_or q p 0) 0)) (lower p l) (h (get_or q p 0) (order.1 p l).0)
 
   pub infeasible_all : InfeasibleByPlace size n ok q → NoChoicePasses size n ok q

@@ -9,32 +9,32 @@ use Rattle.analysis.proofs.Among.{among_none}
 
 -- places of a list and of one that is longer at its end
 module _ (pre : List ℕ) (x : ℕ) where
-  push_old : (P : List ℕ → ℕ → Type 0) (p : ℕ) → p < length pre → P (take p pre) (get_or pre p 0) → P (take p (pre ++ x ∷ [])) (get_or (pre ++ x ∷ []) p 0)
+  pub push_old : (P : List ℕ → ℕ → Type 0) (p : ℕ) → p < length pre → P (take p pre) (get_or pre p 0) → P (take p (pre ++ x ∷ [])) (get_or (pre ++ x ∷ []) p 0)
   push_old P p l h = subst₂ P (sym (take-append-le p pre (x ∷ []) (omega arith))) (sym (get_or_append_left pre (x ∷ []) 0 p l)) h
 
-  push_new : (P : List ℕ → ℕ → Type 0) (p : ℕ) → p ≡ length pre → P pre x → P (take p (pre ++ x ∷ [])) (get_or (pre ++ x ∷ []) p 0)
+  pub push_new : (P : List ℕ → ℕ → Type 0) (p : ℕ) → p ≡ length pre → P pre x → P (take p (pre ++ x ∷ [])) (get_or (pre ++ x ∷ []) p 0)
   push_new P p e h = subst₂ P (sym (take_at pre (x ∷ []) p (sym e))) (sym (get_or_at pre x [] 0 p (sym e))) h
 
-  old_push : (P : List ℕ → ℕ → Type 0) (p : ℕ) → p < length pre → P (take p (pre ++ x ∷ [])) (get_or (pre ++ x ∷ []) p 0) → P (take p pre) (get_or pre p 0)
+  pub old_push : (P : List ℕ → ℕ → Type 0) (p : ℕ) → p < length pre → P (take p (pre ++ x ∷ [])) (get_or (pre ++ x ∷ []) p 0) → P (take p pre) (get_or pre p 0)
   old_push P p l h = subst₂ P (take-append-le p pre (x ∷ []) (omega arith)) (get_or_append_left pre (x ∷ []) 0 p l) h
 
-  new_push : (P : List ℕ → ℕ → Type 0) → P (take (length pre) (pre ++ x ∷ [])) (get_or (pre ++ x ∷ []) (length pre) 0) → P pre x
+  pub new_push : (P : List ℕ → ℕ → Type 0) → P (take (length pre) (pre ++ x ∷ [])) (get_or (pre ++ x ∷ []) (length pre) 0) → P pre x
   new_push P h = subst₂ P (take_at pre (x ∷ []) (length pre) refl) (get_or_at pre x [] 0 (length pre) refl) h
 
   -- what holds at each place of both parts
-  push_places : (P : List ℕ → ℕ → Type 0) → ((p : ℕ) → p < length pre → P (take p pre) (get_or pre p 0)) → P pre x
+  pub push_places : (P : List ℕ → ℕ → Type 0) → ((p : ℕ) → p < length pre → P (take p pre) (get_or pre p 0)) → P pre x
       → (p : ℕ) → p < length (pre ++ x ∷ []) → P (take p (pre ++ x ∷ [])) (get_or (pre ++ x ∷ []) p 0)
   push_places P old new p l =
       ⊎_elim (λ s. push_old P p s (old p s)) (λ s. push_new P p (omega (arith, length_push pre x)) new) (cases_lt p (length pre))
 
-prefix_places : (P : List ℕ → ℕ → Type 0) (q : List ℕ) (m : ℕ) → m ≤ length q → ((p : ℕ) → p < length q → P (take p q) (get_or q p 0))
+pub prefix_places : (P : List ℕ → ℕ → Type 0) (q : List ℕ) (m : ℕ) → m ≤ length q → ((p : ℕ) → p < length q → P (take p q) (get_or q p 0))
     → (p : ℕ) → p < length (take m q) → P (take p (take m q)) (get_or (take m q) p 0)
 prefix_places P q m l h p s =
     let t : p < m = omega (arith, length-take-le m q l) in
     subst₂ P (sym (take-take p m q (omega arith))) (sym (get_or-take m q p 0 t)) (h p (omega arith))
 
 module _ (size : ℕ → ℕ) (n : ℕ) (ok : Test) where
-  pass_prefix : (q o : List ℕ) (m : ℕ) → m ≤ length q → PlacesPass ok q o → PlacesPass ok (take m q) o
+  pub pass_prefix : (q o : List ℕ) (m : ℕ) → m ≤ length q → PlacesPass ok q o → PlacesPass ok (take m q) o
   pass_prefix q o m l h = prefix_places (λ low k. ok low k o (get_or o k 0)) q m l h
 
   pub greedy_start : (lens : List ℕ) → IsChoice size n lens → Greedy size n ok [] lens

@@ -29,10 +29,10 @@ limit_at ts j l = get_or-map (λ t. t.deadline) ts j no_task 0 l
 pub limits_late : (ts : List Task) → TasksWithinLimits ts → Late ts (finish_limits ts)
 limits_late ts s j l = let e = limit_at ts j l in let h = s j l in (omega arith, omega arith)
 
-self_above : (low : List ℕ) (k : ℕ) → above low k k ≡ false
+pub self_above : (low : List ℕ) (k : ℕ) → above low k k ≡ false
 self_above low k = and_left (not (eqb k k)) (not (among low k)) (not_from_true (eqb k k) (eq-eqb k k refl))
 
-self_below : (low : List ℕ) (k : ℕ) → below low k k ≡ false
+pub self_below : (low : List ℕ) (k : ℕ) → below low k k ≡ false
 self_below low k = and_left (not (eqb k k)) (among low k) (not_from_true (eqb k k) (eq-eqb k k refl))
 
 apart : (low : List ℕ) (k j : ℕ) → above low k j ≡ true → below low k j ≡ true → ⊥
@@ -92,7 +92,7 @@ module _ (ts : List Task) (sound : TasksWithinLimits ts) (few : length ts ≤ 32
 pub part : {X : Type 0} (n : ℕ) (xs : List X) {ys : List X} → take n xs ≡ ys → take (n - 0) xs ≡ ys
 part n xs e = let z : n - 0 ≡ n = omega arith in rw z e
 
-ones : (k : ℕ) → k < 32 → ◌≡◌ {A = ℕ} (get_or (replicate 32 1) k 0) 1
+pub ones : (k : ℕ) → k < 32 → ◌≡◌ {A = ℕ} (get_or (replicate 32 1) k 0) 1
 ones k l = get_or-replicate 32 k 1 0 l
 
 -- the lengths before a search

@@ -20,7 +20,7 @@ moved_is m t us ls f e a b =
     let r : f + (e - f) ≡ e = omega arith in
     (λ i. posed m (w i) (d i) (r i) us ls)
 
-longer_meets : (sum : Query → ℕ) → Steady sum → (m : ℕ) (t : Task) (us ls : List Rival) → 1 ≤ m → m ≤ 16 → TaskWithinLimits t → length us + length ls ≤ 31 → RivalsWithinLimits us → RivalsWithinLimits ls
+pub longer_meets : (sum : Query → ℕ) → Steady sum → (m : ℕ) (t : Task) (us ls : List Rival) → 1 ≤ m → m ≤ 16 → TaskWithinLimits t → length us + length ls ≤ 31 → RivalsWithinLimits us → RivalsWithinLimits ls
     → (f e : ℕ) → 1 ≤ f → f ≤ e → e ≤ t.cost → Meets sum m t us ls f → Meets sum m t us ls e
 longer_meets sum steady m t us ls a b s few hu hl f e c d g h =
     let eq = moved_is m t us ls f e c d in
@@ -31,4 +31,4 @@ longer_meets sum steady m t us ls a b s few hu hl f e c d g h =
     omega (arith, div_grows (sum (asked m t e us ls)) (sum (asked m t f us ls)) m a le)
 
 pub longer_passes : (sum : Query → ℕ) → Steady sum → (p : Place) (f e : ℕ) → 1 ≤ f → f ≤ e → e ≤ p.task.cost → MeetsAt sum p f → MeetsAt sum p e
-longer_passes sum steady p f e = longer_meets sum steady p.cores p.task p.upper.items p.lower.items p.some p.most p.limits p.few p.uppers p.lowers f e
+longer_passes sum steady p f e = longer_meets sum steady p.cores p.task p.upper.now p.lower.now p.some p.most p.limits p.few p.uppers p.lowers f e

@@ -62,7 +62,7 @@ module _ (m : ℕ) (ts : List Task) (q lens : List ℕ) (k : ℕ) (late : List �
   lowers_are : lowers ts late lens (under q k) k ≡ picked (lower q k) (lower_by ts lens by) (length ts)
   lowers_are = picked_same (lower q k) (lower_rival ts late lens) (lower_by ts lens by) (length ts) (λ j h. ap (rival_of (get_or ts j no_task) (get_or lens j 0 - 1)) (same j h))
 
-  full_written : full_sum (posed m l (before_region ts lens k) (get_or lens k 0) (uppers ts late (under q k) k) (lowers ts late lens (under q k) k))
+  pub full_written : full_sum (posed m l (before_region ts lens k) (get_or lens k 0) (uppers ts late (under q k) k) (lowers ts late lens (under q k) k))
       ≡ full_interference ts q lens k by l (before_region ts lens k)
   full_written =
       let x = posed m l (before_region ts lens k) (get_or lens k 0) [] [] in
@@ -74,7 +74,7 @@ module _ (m : ℕ) (ts : List Task) (q lens : List ℕ) (k : ℕ) (late : List �
         sum_picked (carry_in_share x) (lower q k) (lower_by ts lens by) (length ts),
       )
 
-  limited_written : limited_sum (posed m l (before_region ts lens k) (get_or lens k 0) (uppers ts late (under q k) k) (lowers ts late lens (under q k) k))
+  pub limited_written : limited_sum (posed m l (before_region ts lens k) (get_or lens k 0) (uppers ts late (under q k) k) (lowers ts late lens (under q k) k))
       ≡ limited_interference m ts q lens k by l (before_region ts lens k)
   limited_written =
       let x = posed m l (before_region ts lens k) (get_or lens k 0) [] [] in
@@ -89,7 +89,7 @@ module _ (m : ℕ) (ts : List Task) (q lens : List ℕ) (k : ℕ) (late : List �
       )
 
 -- a decision of one is a decision of the other, beside any other fact
-when_same : (A B C : Type 0) (b : Bool) → Equivalent B C → MatchBool b (A × B) (A × B → ⊥) → MatchBool b (A × C) (A × C → ⊥)
+pub when_same : (A B C : Type 0) (b : Bool) → Equivalent B C → MatchBool b (A × B) (A × B → ⊥) → MatchBool b (A × C) (A × C → ⊥)
 when_same A B C true e h = (h.0, e.0 h.1)
 when_same A B C false e h = λ x. h (x.0, e.1 x.1)
 

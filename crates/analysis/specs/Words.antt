@@ -22,10 +22,10 @@ abbrev pub RegionOf : Place → ℕ → Type 0
 RegionOf p f = (1 ≤ f) × (f ≤ p.task.cost)
 
 abbrev pub MeetsAt : (Query → ℕ) → Place → ℕ → Type 0
-MeetsAt sum p f = Meets sum p.cores p.task p.upper.items p.lower.items f
+MeetsAt sum p f = Meets sum p.cores p.task p.upper.now p.lower.now f
 
 abbrev pub next_at : (Query → ℕ) → Place → ℕ → ℕ → ℕ
-next_at sum p f b = next_bound sum p.cores p.task.cost f p.upper.items p.lower.items b
+next_at sum p f b = next_bound sum p.cores p.task.cost f p.upper.now p.lower.now b
 
 -- of a set of tasks
 abbrev pub test_of : (Query → ℕ) → TaskSet → Test

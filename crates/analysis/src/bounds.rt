@@ -6,7 +6,7 @@ ghost use Rattle.analysis.specs.Words.{RegionOf, next_at, bound_in, KeepsIn, Lea
 use crate::level::Finishes;
 use crate::passing::next;
 use crate::place::Place;
-use crate::rivals::limit;
+use crate::rivals::{Rivals, limit};
 use crate::task::Task;
 use crate::task_set::Arranged;
 use interference::rule::Rule;
@@ -86,7 +86,11 @@ fn place_bound<R: Rule>(rule: &R, tasks: &Arranged, p: usize, bounds: &[u32; 32]
         (cost_of tasks.now.ordered.set.tasks.now (slice_index tasks.now.ordered.order.now p)) (limit_of tasks.now.ordered.set.tasks.now (slice_index tasks.now.ordered.order.now p)) result }
 {
     let k = tasks.ordered.order[p];
-    let place = tasks.level(p).place(k, &Finishes::Bounds(bounds));
+    let mut upper = Rivals::new();
+    let mut lower = Rivals::new();
+    let place = tasks
+        .level(p)
+        .place(k, &Finishes::Bounds(bounds), &mut upper, &mut lower);
     own_bound(rule, &place, tasks.lengths[k], bounds[k])
 }
 

@@ -19,13 +19,17 @@ pub struct Trying;
 
 impl<R: Rule> Finder<R> for Trying {
     fn first(&self, rule: &R, place: &Place) -> Option<u32> {
-        // tried with find on the range, the proof did not close by itself
-        'lengths: for f in 1..=place.task.cost {
-            if passes(rule, place, f) {
-                return Some(f);
+        // no `for`: the loop itself yields the length, by its breaks
+        let mut f = 1;
+        'lengths: loop {
+            if f > place.task.cost {
+                break 'lengths None;
             }
+            if passes(rule, place, f) {
+                break 'lengths Some(f);
+            }
+            f += 1;
         }
-        None
     }
 }
 

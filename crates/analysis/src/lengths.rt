@@ -5,6 +5,7 @@ ghost use Rattle.analysis.specs.Words.{PassesAt, OrderedLengths, NoOrderedLength
 
 use crate::finder::{Finder, Halving, Trying};
 use crate::level::{Finishes, Level};
+use crate::rivals::Rivals;
 use crate::task_set::Ordered;
 use interference::rule::Rule;
 use interference::steady::SteadyRule;
@@ -34,7 +35,10 @@ pub(crate) fn length_by<R: Rule, F: Finder<R>>(
     requires here { k < length level.now.set.tasks.now }
     ensures { FirstTo (PassesAt (R.Rule.meaning rule.now) level.now k) (cost_of level.now.set.tasks.now k) result }
 {
-    finder.first(rule, &level.place(k, &Finishes::Limits))
+    let mut upper = Rivals::new();
+    let mut lower = Rivals::new();
+    let place = level.place(k, &Finishes::Limits, &mut upper, &mut lower);
+    finder.first(rule, &place)
 }
 
 // The same with the finder as a parameter: from the lowest place up, each task gets the first length that passes. The two

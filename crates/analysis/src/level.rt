@@ -1,4 +1,4 @@
-ghost use Rattle.std.specs.Prelude.{◌≡◌, ℕ, ◌<◌, ◌≤◌, length, slice_index, slice_index_or};
+ghost use Rattle.std.specs.Prelude.{◌≡◌, ℕ, ◌<◌, ◌≤◌, [], length, slice_index, slice_index_or};
 ghost use Rattle.analysis.specs.Rivals.{no_task, cost_of, uppers, lowers};
 ghost use Rattle.analysis.specs.Plans.{IsChoice};
 ghost use Rattle.analysis.specs.Finishes.{latest, Fit};
@@ -39,39 +39,38 @@ pub struct Level<'a> {
     ghost choice: { IsChoice (cost_of set.tasks.now) (length set.tasks.now) lengths.now },
 }
 
-// Rivals in higher places and in lower ones, each by rising number.
-#[derive(Drop)]
-struct Sides {
-    upper: Rivals,
-    lower: Rivals,
-}
-
 impl<'a> Level<'a> {
-    // Task k on this level, below all that do not stand lower.
-    pub fn place(&self, k: usize, late: &Finishes) -> Place
+    // Task k on this level, below all that do not stand lower. Its rivals go into two lent lists, by rising number.
+    pub fn place<'b>(
+        &self,
+        k: usize,
+        late: &Finishes,
+        upper: &'b mut Rivals,
+        lower: &'b mut Rivals,
+    ) -> Place<'b>
         requires here { k < length self.now.set.tasks.now }
         requires fit { Fit self.now.set.tasks.now late.now }
+        requires empty { (upper.old.items ≡ []) × (lower.old.items ≡ []) }
         ensures cores { result.cores ≡ self.now.set.cores }
         ensures task { result.task ≡ slice_index_or self.now.set.tasks.now k no_task }
-        ensures upper { result.upper.items ≡ uppers self.now.set.tasks.now (latest self.now.set.tasks.now late.now) self.now.low.now k }
-        ensures lower { result.lower.items ≡ lowers self.now.set.tasks.now (latest self.now.set.tasks.now late.now) self.now.lengths.now self.now.low.now k }
+        ensures upper { result.upper.now ≡ uppers self.now.set.tasks.now (latest self.now.set.tasks.now late.now) self.now.low.now k }
+        ensures lower { result.lower.now ≡ lowers self.now.set.tasks.now (latest self.now.set.tasks.now late.now) self.now.lengths.now self.now.low.now k }
     {
-        let Sides { upper, lower } = self.sides(k, late);
+        self.fill(k, late, upper, lower);
         Place {
             cores: self.set.cores,
             task: self.set.tasks[k],
-            upper,
-            lower,
+            upper: upper.as_slice(),
+            lower: lower.as_slice(),
         }
     }
 
-    fn sides(&self, k: usize, late: &Finishes) -> Sides
+    fn fill(&self, k: usize, late: &Finishes, upper: &mut Rivals, lower: &mut Rivals)
         requires fit { Fit self.now.set.tasks.now late.now }
-        ensures upper { result.upper.items ≡ uppers self.now.set.tasks.now (latest self.now.set.tasks.now late.now) self.now.low.now k }
-        ensures lower { result.lower.items ≡ lowers self.now.set.tasks.now (latest self.now.set.tasks.now late.now) self.now.lengths.now self.now.low.now k }
+        requires empty { (upper.old.items ≡ []) × (lower.old.items ≡ []) }
+        ensures upper { upper.new.items ≡ uppers self.now.set.tasks.now (latest self.now.set.tasks.now late.now) self.now.low.now k }
+        ensures lower { lower.new.items ≡ lowers self.now.set.tasks.now (latest self.now.set.tasks.now late.now) self.now.lengths.now self.now.low.now k }
     {
-        let mut upper = Rivals::new();
-        let mut lower = Rivals::new();
         for (j, t) in self.set.tasks.iter().enumerate() {
             if j != k {
                 let finish = late.of(self.set.tasks, j);
@@ -82,6 +81,5 @@ impl<'a> Level<'a> {
                 }
             }
         }
-        Sides { upper, lower }
     }
 }

@@ -13,7 +13,7 @@ use interference::rule::Rule;
 fn part<R: Rule>(rule: &R, place: &Place, window: u32, f: u32) -> u32
     requires region { RegionOf place.now f }
     requires window { (own_demand place.now.task f ≤ window) × (window ≤ 65535) }
-    ensures part { result ≡ R.Rule.meaning rule.now (posed place.now.cores window (own_demand place.now.task f) f place.now.upper.items place.now.lower.items) / place.now.cores }
+    ensures part { result ≡ R.Rule.meaning rule.now (posed place.now.cores window (own_demand place.now.task f) f place.now.upper.now place.now.lower.now) / place.now.cores }
     ensures fits { result ≤ 1000000000 }
 {
     let demand = place.task.cost - (f - 1);
@@ -22,8 +22,8 @@ fn part<R: Rule>(rule: &R, place: &Place, window: u32, f: u32) -> u32
         window,
         demand,
         region: f,
-        upper: place.upper.as_slice(),
-        lower: place.lower.as_slice(),
+        upper: place.upper,
+        lower: place.lower,
     };
     rule.sum(&q) / place.cores
 }

@@ -3,7 +3,7 @@ ghost use Rattle.analysis.specs.Words.{Tells, WithinLimits, PassesIn, KeepsIn, S
 
 use crate::level::Finishes;
 use crate::passing::{next, passes};
-use crate::rivals::limit;
+use crate::rivals::{Rivals, limit};
 use crate::task_set::{Arranged, TaskSet};
 use interference::rule::Rule;
 
@@ -31,7 +31,11 @@ fn place_passes<R: Rule>(rule: &R, tasks: &Arranged, p: usize) -> bool
     ensures { Tells result (PassesIn (R.Rule.meaning rule.now) tasks.now (slice_index tasks.now.ordered.order.now p)) }
 {
     let k = tasks.ordered.order[p];
-    let place = tasks.level(p).place(k, &Finishes::Limits);
+    let mut upper = Rivals::new();
+    let mut lower = Rivals::new();
+    let place = tasks
+        .level(p)
+        .place(k, &Finishes::Limits, &mut upper, &mut lower);
     passes(rule, &place, tasks.lengths[k])
 }
 
@@ -64,6 +68,10 @@ fn keeps<R: Rule>(rule: &R, tasks: &Arranged, bounds: &[u32], p: usize) -> bool
     ensures { Tells result (KeepsIn (R.Rule.meaning rule.now) tasks.now bounds.now (slice_index tasks.now.ordered.order.now p)) }
 {
     let k = tasks.ordered.order[p];
-    let place = tasks.level(p).place(k, &Finishes::Bounds(bounds));
+    let mut upper = Rivals::new();
+    let mut lower = Rivals::new();
+    let place = tasks
+        .level(p)
+        .place(k, &Finishes::Bounds(bounds), &mut upper, &mut lower);
     next(rule, &place, tasks.lengths[k], bounds[k]) == bounds[k]
 }

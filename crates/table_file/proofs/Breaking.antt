@@ -7,7 +7,7 @@ use Rattle.table_file.specs.declared.fault.Number.{Number}
 use Rattle.table_file.specs.declared.fault.Number.TheVariants.{CoreCount, TableFull, Limits, NoSuchTask, NamedAgain, Length, Digit, Line, Kind, Size, NotDue, TooLong}
 use Rattle.table_file.specs.declared.fault.Fault.{Fault}
 use Rattle.table_file.specs.declared.reader.Phase.TheVariants.{Start, Tasks}
-use Rattle.table_file.specs.Numbers.{fault_at, layer_of}
+use Rattle.table_file.specs.Numbers.{fault_at, layer_number, layer_of}
 use Rattle.table_file.specs.Digits.{is_digit, AllDigits}
 use Rattle.table_file.specs.Lines.{TextLine, check_line, wrong_at}
 use Rattle.table_file.specs.Frames.{Form, cores, task, place, form_of, fields}
@@ -306,7 +306,7 @@ pub one_fault : (s : Progress) (t : TextLine) (ln : ℕ) (f g : Fault) → Broke
 one_fault s t ln f g a b =
     let number : f.number ≡ g.number = same_turn _ _ (turn_is (a.first g.number) (b.first f.number)) in
     let line : f.line ≡ g.line = a.line ∙ sym b.line in
-    let layer : f.layer ≡ g.layer = a.layer ∙ ap layer_of number ∙ sym b.layer in
+    let layer : f.layer ≡ g.layer = a.layer ∙ ap (λ n. layer_number (layer_of n)) number ∙ sym b.layer in
     let column : f.column ≡ g.column = ⊎_elim
     (λ d. wrong_is (a.column (number ∙ d)) (b.column d))
     (λ d. a.whole (λ e. d (sym number ∙ e)) ∙ sym (b.whole d))

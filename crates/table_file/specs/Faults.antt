@@ -8,7 +8,7 @@ use Rattle.table_file.specs.declared.fault.Number.TheVariants.{CoreCount, TableF
 use Rattle.table_file.specs.declared.fault.Fault.{Fault}
 use Rattle.table_file.specs.declared.place.Place.{Place}
 use Rattle.table_file.specs.declared.reader.Phase.TheVariants.{Start, Tasks, Places}
-use Rattle.table_file.specs.Numbers.{layer_of, fault_at}
+use Rattle.table_file.specs.Numbers.{layer_number, layer_of, fault_at}
 use Rattle.table_file.specs.Digits.{is_digit, byte_at}
 use Rattle.table_file.specs.Lines.{TextLine, lines_of}
 use Rattle.table_file.specs.Frames.{fields, task_of, place_of}
@@ -81,7 +81,7 @@ module _ (s : Progress) (t : TextLine) where
   pub record Broken (ln : ℕ) (f : Fault) : Type 0 where
     pub rule : Breaks f.number
     pub first : (k : Number) → turn k < turn f.number → Breaks k → ⊥
-    pub layer : f.layer ≡ layer_of f.number
+    pub layer : f.layer ≡ layer_number (layer_of f.number)
     pub line : f.line ≡ ln
     pub column : f.number ≡ Digit → FirstWrong f.column
     pub whole : (f.number ≢ Digit) → f.column ≡ 1

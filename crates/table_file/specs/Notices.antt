@@ -5,14 +5,14 @@ use Rattle.planner.specs.Refusals.{number}
 use Rattle.planner.specs.Reading.{over}
 use Rattle.table_file.specs.declared.fault.Fault.{Fault}
 use Rattle.table_file.specs.declared.notice.Notice.{Notice}
-use Rattle.table_file.specs.Numbers.{number_of, layer_number}
+use Rattle.table_file.specs.Numbers.{number_of}
 use Rattle.table_file.specs.Digits.{byte_text, word_text}
 
 abbrev pub notice : ℕ → ℕ → ℕ → ℕ → Notice
 notice n y l c = record { number = n; layer = y; line = l; column = c }
 
 abbrev pub of_fault : Fault → Notice
-of_fault f = notice (number_of f.number) (layer_number f.layer) f.line f.column
+of_fault f = notice (number_of f.number) f.layer f.line f.column
 
 -- kind 7F, then number, layer, line and column in 1, 1, 2 and 2 bytes
 abbrev pub notice_line : Notice → List ℕ

@@ -43,4 +43,4 @@ layer_of TooLong = Lines
 
 -- a fault at a line and a column, both counted from 1
 abbrev pub fault_at : Number → ℕ → ℕ → Fault
-fault_at n l c = record { number = n; layer = layer_of n; line = l; column = c }
+fault_at n l c = record { number = n; layer = layer_number (layer_of n); line = l; column = c }

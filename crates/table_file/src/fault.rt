@@ -74,11 +74,12 @@ impl Number {
     }
 }
 
-// A refusal with its place in the file; lines and columns count from 1.
+// A refusal with its place in the file; lines and columns count from 1. The layer is a byte, since a notice can be made of
+// any: `Layer` would ask more of who makes a fault.
 #[derive(Clone, Copy, PartialEq, Eq, Debug)]
 pub struct Fault {
     pub number: Number,
-    pub layer: Layer,
+    pub layer: u8,
     pub line: u16,
     pub column: u16,
 }
@@ -90,7 +91,7 @@ impl Fault {
     {
         Fault {
             number,
-            layer: number.layer(),
+            layer: u8::from(number.layer()),
             line,
             column,
         }

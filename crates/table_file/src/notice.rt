@@ -25,7 +25,7 @@ impl From<Fault> for Notice {
     fn from(fault: Fault) -> Notice {
         Notice {
             number: u8::from(fault.number),
-            layer: u8::from(fault.layer),
+            layer: fault.layer,
             line: fault.line,
             column: fault.column,
         }

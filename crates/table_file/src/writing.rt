@@ -1,8 +1,8 @@
-ghost use Rattle.std.specs.Prelude.{◌≡◌, ◌≤◌, length};
+ghost use Rattle.std.specs.Prelude.{◌≡◌, ◌+◌, ◌*◌, ◌≤◌, length};
 ghost use Rattle.planner.specs.Reading.{FixedWithinLimits};
 ghost use Rattle.planner.specs.Rows.{tasks};
 ghost use Rattle.planner.specs.Tables.{held, holds};
-ghost use Rattle.table_file.specs.Promises.{Writes};
+ghost use Rattle.table_file.specs.Promises.{Writes, Written};
 ghost use Rattle.table_file.specs.Sheets.{kept};
 ghost use Rattle.table_file.specs.Puts.{paired};
 ghost use Rattle.table_file.specs.Stored.{stored, of_open, of_fixed, Valid};
@@ -24,7 +24,11 @@ use planner::rows::Row;
 pub fn write_open(table: &OpenTable, text: &mut [u8]) -> Result<usize, Refusal>
     ensures { Writes (of_open (held table.now)) result text.old text.new }
 {
-    write_lines(table.core_count(), table.rows(), &[], text)
+    let rows = table.rows();
+    if text.len() < file_bytes(rows.len(), 0) {
+        return Err(Refusal::TooShort);
+    }
+    Ok(put_lines(table.core_count(), rows, &[], text))
 }
 
 // Writes the file of a fixed table, with its places, over the front of a text, and answers its length.
@@ -32,8 +36,12 @@ pub fn write_fixed<R: Rule>(table: &FixedTable<R>, text: &mut [u8]) -> Result<us
     ensures { Writes (of_fixed (holds table.now)) result text.old text.new }
 {
     let rows = table.rows();
+    // before the places are read: a refusal costs the same, however many there are
+    if text.len() < file_bytes(rows.len(), rows.len()) {
+        return Err(Refusal::TooShort);
+    }
     let places = places_of(table);
-    write_lines(table.core_count(), rows, &places, text)
+    Ok(put_lines(table.core_count(), rows, &places, text))
 }
 
 // Writes the file of a sheet over the front of a text, and gives the sheet back with the length. A sheet with places is
@@ -55,22 +63,23 @@ pub fn write_sheet(sheet: Sheet, text: &mut [u8]) -> (Result<usize, Refusal>, Sh
     (answer, Sheet { table, places })
 }
 
-// Writes a line for the core count, each task and each place.
-fn write_lines(
-    cores: u32,
-    rows: &[Row],
-    places: &[Place],
-    text: &mut [u8],
-) -> Result<usize, Refusal>
-    requires { Valid (stored cores (tasks rows.now) places.now) }
-    ensures { Writes (stored cores (tasks rows.now) places.now) result text.old text.new }
+// How many bytes a file with so many tasks and places has.
+fn file_bytes(tasks: usize, places: usize) -> usize
+    requires { (tasks ≤ 32) × (places ≤ 32) }
+    ensures { result ≡ 5 + 15 * tasks + 9 * places }
 {
-    if text.len() < CORES_BYTES + TASK_BYTES * rows.len() + PLACE_BYTES * places.len() {
-        return Err(Refusal::TooShort);
-    }
+    CORES_BYTES + TASK_BYTES * tasks + PLACE_BYTES * places
+}
+
+// Writes a line for the core count, each task and each place.
+fn put_lines(cores: u32, rows: &[Row], places: &[Place], text: &mut [u8]) -> usize
+    requires valid { Valid (stored cores (tasks rows.now) places.now) }
+    requires room { 5 + 15 * length rows.now + 9 * length places.now ≤ length text.old }
+    ensures { Written (stored cores (tasks rows.now) places.now) result text.old text.new }
+{
     let at = put(text, 0, Cores(cores).line());
     let at = put_all(text, at, rows);
-    Ok(put_all(text, at, places))
+    put_all(text, at, places)
 }
 
 // The places of a table, the highest first.

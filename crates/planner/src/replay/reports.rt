@@ -6,27 +6,32 @@ ghost use Rattle.planner.specs.Reporting.{ShowsOpen, ShowsStanding, ShowsFixed, 
 use super::{Outcome, Report, Standing, Table};
 use crate::columns::{bounds_of, lengths_of, tasks_of};
 use crate::fixed::FixedTable;
-use crate::open::OpenTable;
 use interference::rule::Rule;
 use interference::steady::SteadyRule;
 
-// What a table shows after a call.
-pub(super) fn report<R: Rule, S: SteadyRule>(table: &Table<R, S>, outcome: Outcome) -> Report
-    ensures outcome { result.outcome ≡ outcome }
-    ensures shows { Shows (state table.now) result }
+// Reports what a table shows after a call, in a lent slot: a report is large, and what is written there is not copied again.
+pub(super) fn report<R: Rule, S: SteadyRule>(
+    table: &Table<R, S>,
+    outcome: Outcome,
+    slot: &mut Report,
+)
+    ensures outcome { slot.new.outcome ≡ outcome }
+    ensures shows { Shows (state table.now) slot.new }
 {
-    let (cores, rows, fixed) = match table {
-        Table::Open(t) => (t.core_count(), t.rows(), None),
-        Table::Fixed(t) => (t.core_count(), t.rows(), Some(standing(t))),
-        Table::Steady(t) => (t.core_count(), t.rows(), Some(standing(t))),
+    let (cores, rows) = match table {
+        Table::Open(t) => (t.core_count(), t.rows()),
+        Table::Fixed(t) => (t.core_count(), t.rows()),
+        Table::Steady(t) => (t.core_count(), t.rows()),
     };
-    Report {
-        outcome,
-        cores,
-        count: rows.len(),
-        tasks: tasks_of(rows),
-        fixed,
-    }
+    slot.outcome = outcome;
+    slot.cores = cores;
+    slot.count = rows.len();
+    slot.tasks = tasks_of(rows);
+    slot.fixed = match table {
+        Table::Open(_) => None,
+        Table::Fixed(t) => Some(standing(t)),
+        Table::Steady(t) => Some(standing(t)),
+    };
 }
 
 // What stands in a fixed table; read out by place, and then by task number.

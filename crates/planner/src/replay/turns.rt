@@ -82,17 +82,18 @@ fn turn<R: Rule + Drop, S: SteadyRule + Drop>(
     }
 }
 
-// Carries one call out, and reports on it.
+// Carries one call out, and reports on it in a lent slot.
 fn carry_out<R: Rule + Drop, S: SteadyRule + Drop>(
     table: Table<R, S>,
     call: Call<R, S>,
-) -> (Table<R, S>, Report)
-    ensures turned { Turn (sum_under R.Rule.meaning S.Rule.meaning) Steadily (state table) (request call) (came result.1.outcome) (state result.0) }
-    ensures shows { Shows (state result.0) result.1 }
+    slot: &mut Report,
+) -> Table<R, S>
+    ensures turned { Turn (sum_under R.Rule.meaning S.Rule.meaning) Steadily (state table) (request call) (came slot.new.outcome) (state result) }
+    ensures shows { Shows (state result) slot.new }
 {
     let (next, outcome) = turn(table, call);
-    let report = report(&next, outcome);
-    (next, report)
+    report(&next, outcome, slot);
+    next
 }
 
 // Carries the calls out in their order, as many as there are places for reports, reports on each, and gives the table
@@ -114,7 +115,7 @@ pub fn replay<R: Rule + Drop, S: SteadyRule + Drop>(
         let Some(call) = rest.next() else {
             break 'calls;
         };
-        (table, *report) = carry_out(table, call);
+        table = carry_out(table, call, report);
     }
     (count, table)
 }

@@ -78,7 +78,7 @@ impl Rows {
         ensures keeps { kept self.new ≡ opened (kept self.old).cores (slice_set (kept self.old).tasks (number - 1) (with_cost (task_numbered (kept self.old).tasks number) cost)) }
         ensures fresh { Fresh self.old.items.items → Fresh self.new.items.items }
     {
-        self.items[number as usize - 1].task.cost = cost;
+        change(&mut self.items[number as usize - 1], cost);
     }
 
     // Lengths 1 and bounds 0 again.
@@ -88,6 +88,15 @@ impl Rows {
     {
         self.set(&[1; 32], &[0; 32]);
     }
+}
+
+// Changes the cost of the one task record that is lent.
+fn change(row: &mut Row, cost: u32)
+    ensures task { row.new.task ≡ with_cost row.old.task cost }
+    ensures length { row.new.length ≡ row.old.length }
+    ensures bound { row.new.bound ≡ row.old.bound }
+{
+    row.amend(cost);
 }
 
 fn is_length(region: u32, cost: u32) -> bool

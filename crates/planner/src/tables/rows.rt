@@ -12,6 +12,17 @@ pub struct Row {
     pub bound: u32,
 }
 
+impl Row {
+    // Changes the cost.
+    pub(in crate::tables) fn amend(&mut self, cost: u32)
+        ensures task { self.new.task ≡ record { cost = cost; deadline = self.old.task.deadline; period = self.old.task.period } }
+        ensures length { self.new.length ≡ self.old.length }
+        ensures bound { self.new.bound ≡ self.old.bound }
+    {
+        self.task.cost = cost;
+    }
+}
+
 // What both kinds of table hold: 1 to 16 cores, and at most 32 tasks within their limits. The room for 32 is
 // reserved when the table is made, so that nothing later wants memory.
 #[derive(Drop)]

@@ -74,10 +74,9 @@ impl<R: Rule> FixedTable<R> {
         ensures rule { self.new.rule ≡ self.old.rule }
         ensures holds { holds self.new ≡ fixed (holds self.old).cores (holds self.old).tasks (holds self.old).order (slice_set (holds self.old).lengths (number - 1) region) (no_bounds (holds self.old)) false false }
     {
-        let order = self.read_order();
         let mut lengths = self.rows.read_lengths();
         lengths[number as usize - 1] = region;
-        self.arrange(&order, &lengths, Marks::default());
+        self.settle(&lengths, Marks::default());
     }
 
     // Sets the order, from task numbers, the highest place first.
@@ -108,6 +107,16 @@ impl<R: Rule> FixedTable<R> {
         }
     }
 
+    // Sets lengths and marks, and each bound to 0.
+    pub(super) fn settle(&mut self, lengths: &[u32; 32], marks: Marks)
+        requires choice { IsChoice (cost_of (holds self.old).tasks) (length (holds self.old).tasks) (take (length (holds self.old).tasks) lengths.now) }
+        ensures rule { self.new.rule ≡ self.old.rule }
+        ensures holds { holds self.new ≡ fixed (holds self.old).cores (holds self.old).tasks (holds self.old).order (take (length (holds self.old).tasks) lengths.now) (no_bounds (holds self.old)) marks.passed marks.bounded }
+    {
+        self.rows.set(lengths, &[0; 32]);
+        self.marks = marks;
+    }
+
     // Sets order, lengths and marks, and each bound to 0.
     pub(super) fn arrange(&mut self, order: &[usize], lengths: &[u32; 32], marks: Marks)
         requires long { length (holds self.old).tasks ≤ length order.now }
@@ -116,9 +125,8 @@ impl<R: Rule> FixedTable<R> {
         ensures rule { self.new.rule ≡ self.old.rule }
         ensures holds { holds self.new ≡ fixed (holds self.old).cores (holds self.old).tasks (take (length (holds self.old).tasks) order.now) (take (length (holds self.old).tasks) lengths.now) (no_bounds (holds self.old)) marks.passed marks.bounded }
     {
-        self.rows.set(lengths, &[0; 32]);
+        self.settle(lengths, marks);
         set_order(&mut self.order, order);
-        self.marks = marks;
     }
 }
 
@@ -131,10 +139,11 @@ fn from_below(places: &[u32], count: usize) -> Option<ArrayVec<usize, MOST_TASKS
         return None;
     }
     let mut fresh = ArrayVec::new();
-    for number in places {
+    // from the last on: to turn the list round afterwards costs more, and over `rev()` the loop's proof knows less
+    for p in 0..count {
+        let number = places[count - 1 - p];
         fresh.push(number.checked_sub(1)? as usize);
     }
-    fresh.reverse();
     if is_order(count, &fresh) {
         Some(fresh)
     } else {

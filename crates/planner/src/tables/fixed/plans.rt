@@ -6,7 +6,9 @@ use super::FixedTable;
 use crate::marks::Marks;
 use crate::refusal::Refusal;
 use analysis::finder::{Finder, Halving, Trying};
+use analysis::limits::MOST_PLANNED;
 use analysis::plan::plan_by;
+use analysis::task_set::SmallSet;
 use interference::rule::Rule;
 use interference::steady::SteadyRule;
 
@@ -23,11 +25,13 @@ impl<R: Rule> FixedTable<R> {
         ensures rule { self.new.rule ≡ self.old.rule }
         ensures call { PlanSought (holds self.old) (R.Rule.meaning self.old.rule) result (holds self.new) }
     {
-        let tasks = self.rows.read_tasks();
-        let Some(small) = self.rows.task_set(&tasks).small() else {
+        // before the tasks are read: a refusal costs the same, however many there are
+        if self.rows.count() > MOST_PLANNED {
             return Err(Refusal::TooManyTasks);
-        };
-        let Some(plan) = plan_by(finder, &self.rule, &small) else {
+        }
+        let tasks = self.rows.read_tasks();
+        let set = self.rows.task_set(&tasks);
+        let Some(plan) = plan_by(finder, &self.rule, &SmallSet { set }) else {
             return Err(Refusal::NoPlan);
         };
         self.arrange(&plan.order, &plan.lengths, Marks::PASSED);

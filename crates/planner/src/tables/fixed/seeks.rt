@@ -24,11 +24,10 @@ impl<R: Rule> FixedTable<R> {
         ensures call { LengthsSought (holds self.old) (R.Rule.meaning self.old.rule) result (holds self.new) }
     {
         let tasks = self.rows.read_tasks();
-        let order = self.read_order();
         let Some(lengths) = lengths_by(finder, &self.rule, &self.ordered(&tasks)) else {
             return Err(Refusal::NoLengths);
         };
-        self.arrange(&order, &lengths, Marks::PASSED);
+        self.settle(&lengths, Marks::PASSED);
         Ok(())
     }
 }

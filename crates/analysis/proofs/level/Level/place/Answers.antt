@@ -1,4 +1,4 @@
-use Rattle.std.proofs.Common.{List, length, sym, subst, subst₂, ◌+◌, ◌≤◌}
+use Rattle.std.proofs.Common.{List, length, sym, ◌∙◌, subst, subst₂, ◌+◌, ◌≤◌}
 use Rattle.interference.specs.declared.rival.Rival.{Rival}
 use Rattle.interference.specs.Questions.{RivalsWithinLimits}
 use Rattle.analysis.specs.Finishes.{latest}
@@ -15,12 +15,14 @@ invariant_of-result c =
     let p = c.requires in
     let bs = latest ts a.late.now in
     let late = fit_late ts s.limits a.late.now p.fit in
-    let e = c.sides-upper.ensures in
+    let e = c.fill.ensures in
+    let up = c.as_slice.ensures.value ∙ e.upper in
+    let lo = c.as_slice-2.ensures.value ∙ e.lower in
     record {
       some = s.some;
       most = s.most;
       limits = s.limits a.k p.here;
-      few = subst₂ (λ (x : List Rival) (y : List Rival). length x + length y ≤ 31) (sym e.upper) (sym e.lower) (rivals_few ts s.limits s.few bs late l.low.now a.k p.here l.lengths.now l.choice);
-      uppers = subst (λ (x : List Rival). RivalsWithinLimits x) (sym e.upper) (uppers_within ts s.limits s.few bs late l.low.now a.k p.here);
-      lowers = subst (λ (x : List Rival). RivalsWithinLimits x) (sym e.lower) (lowers_within ts s.limits s.few bs late l.low.now a.k p.here l.lengths.now l.choice);
+      few = subst₂ (λ (x : List Rival) (y : List Rival). length x + length y ≤ 31) (sym up) (sym lo) (rivals_few ts s.limits s.few bs late l.low.now a.k p.here l.lengths.now l.choice);
+      uppers = subst (λ (x : List Rival). RivalsWithinLimits x) (sym up) (uppers_within ts s.limits s.few bs late l.low.now a.k p.here);
+      lowers = subst (λ (x : List Rival). RivalsWithinLimits x) (sym lo) (lowers_within ts s.limits s.few bs late l.low.now a.k p.here l.lengths.now l.choice);
     }

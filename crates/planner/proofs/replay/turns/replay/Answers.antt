@@ -15,12 +15,12 @@ use Rattle.planner.proofs.replay.turns.replay.Goals as goal
 
 pub calls-preserved : goal.calls-preserved
 calls-preserved g c =
-    let k = c.carry_out in
-    let r = k.result.1 in
+    let k = c.carry_out-table in
+    let r = k.new.slot in
     let sum = sum_under g.R.Rule.meaning g.S.Rule.meaning in
     let all = into_iter_items c.into_iter-rest.result in
     onward sum Steadily request (still (held c.args.table)) all c.args.reports.now
-    c.calls.report-index (state c.calls.table) c.in-Some.call r.outcome (state k.result.0) r
+    c.calls.report-index (state c.calls.table) c.in-Some.call r.outcome (state k.result) r
     (into_iter_items c.calls.rest) (into_iter_items c.next.new.self) c.calls.reports
     c.calls.invariant (omega (arith, c.calls.auto.reports)) c.in-Some.ensures.items k.ensures.turned refl k.ensures.shows
 

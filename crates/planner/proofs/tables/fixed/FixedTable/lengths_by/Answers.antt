@@ -1,8 +1,7 @@
-use Rattle.std.proofs.Common.{◌≡◌, true, false, length, take, sym, ap, ◌∙◌, arith, length-take, rules}
+use Rattle.std.proofs.Common.{◌≡◌, length, take, sym, arith, length-take, rules}
 use Rattle.std.proofs.lemmas.List.{length-map, get_or-take}
 use Rattle.analysis.specs.Plans.{LeastLengths}
-use Rattle.planner.specs.Tables.{fixed, holds}
-use Rattle.planner.specs.Calls.{no_bounds}
+use Rattle.planner.specs.Tables.{holds}
 use Rattle.planner.proofs.OnTables.{ordered_as}
 use Rattle.planner.proofs.Entries.{least_same}
 use Rattle.planner.proofs.tables.fixed.FixedTable.lengths_by.Goals as goal
@@ -20,5 +19,5 @@ returns-clause-call g c =
       take n lens,
       omega (arith, length-take n lens, length-map s.rows.items.items (λ r. r.task), s.rows.few, s.rows.items.ok.0),
       least_same sum m.cores m.tasks lens (take n lens) (λ j l. sym (get_or-take n lens j 0 l)) m.order h,
-      c.arrange.ensures.holds ∙ ap (λ q. fixed m.cores m.tasks q (take n lens) (no_bounds m) true false) c.read_order-order.ensures,
+      c.settle.ensures.holds,
     )

@@ -18,4 +18,4 @@ returns-clause-holds g c =
     take_set_in (length m.tasks) read.result i c.args.region ∙ ap (λ l. set l i c.args.region) (ap (λ k. take k read.result) n ∙ read.ensures) in
     let p : c.default.result.passed ≡ false = search rules in
     let b : c.default.result.bounded ≡ false = search rules in
-    c.arrange.ensures.holds ∙ (λ j. fixed m.cores m.tasks (c.read_order-order.ensures j) (lens j) (no_bounds m) (p j) (b j))
+    c.settle.ensures.holds ∙ (λ j. fixed m.cores m.tasks m.order (lens j) (no_bounds m) (p j) (b j))

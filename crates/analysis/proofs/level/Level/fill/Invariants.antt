@@ -1,7 +1,7 @@
 use Rattle.std.proofs.Common.{◌≡◌, ◌+◌, ◌≤◌, length}
 use Rattle.analysis.specs.Rivals.{picked, above, below, upper_rival, lower_rival}
 use Rattle.analysis.specs.Finishes.{latest}
-use Rattle.analysis.proofs.level.Level.sides.Given as goal
+use Rattle.analysis.proofs.level.Level.fill.Given as goal
 
 abbrev pub invariant-loop-j : goal.invariant-loop-j
 invariant-loop-j l = record {

@@ -1,0 +1,13 @@
+use Rattle.std.proofs.Common.{◌≡◌, length, sym, refl, ap, ◌∙◌, arith}
+use Rattle.std.proofs.lemmas.List.{length-map}
+use Rattle.planner.specs.Tables.{holds}
+use Rattle.table_file.specs.Stored.{of_fixed}
+use Rattle.table_file.proofs.Back.{text_length}
+use Rattle.table_file.proofs.Carried.{places_count}
+use Rattle.table_file.proofs.writing.write_fixed.Goals as goal
+
+pub returns-then-text-file_bytes : goal.returns-then-text-file_bytes
+returns-then-text-file_bytes g c =
+    let m = holds c.args.table.now in
+    let n : length m.tasks ≡ length c.rows-rows.result.now = ap length (sym c.rows-rows.ensures.tasks) ∙ length-map c.rows-rows.result.now (λ r. r.task) in
+    record { short = omega (arith, text_length (of_fixed m), places_count m c.rows-rows.ensures.within, c.if-text-file_bytes.true, c.file_bytes.ensures); refusal = refl; unchanged = refl }
